@@ -196,19 +196,19 @@ part-patch n f at bs e h =
     ∙ part-in n bs (drop (at + length bs) f) 0 (omega arith) ∙ part-all n bs e
 
 -- what is put, where it fits and where it does not, by the test and by the order
-pub stored-yes : (f : List ℕ) (at n : ℕ) (bs : List ℕ) → length bs ≡ n → leb (at + n) (length f) ≡ true → stored f at bs ≡ patch f at bs
+pub stored-yes : (n : ℕ) (f : List ℕ) (at : ℕ) (bs : List ℕ) → leb (at + n) (length f) ≡ true → stored n f at bs ≡ patch f at bs
 unfolding stored
-stored-yes f at n bs e t = rw (e, t)
+stored-yes n f at bs t = rw t
 
-pub stored-no : (f : List ℕ) (at n : ℕ) (bs : List ℕ) → length bs ≡ n → leb (at + n) (length f) ≡ false → stored f at bs ≡ f
+pub stored-no : (n : ℕ) (f : List ℕ) (at : ℕ) (bs : List ℕ) → leb (at + n) (length f) ≡ false → stored n f at bs ≡ f
 unfolding stored
-stored-no f at n bs e t = rw (e, t)
+stored-no n f at bs t = rw t
 
-pub stored-in : (f : List ℕ) (at n : ℕ) (bs : List ℕ) → length bs ≡ n → at + n ≤ length f → stored f at bs ≡ patch f at bs
-stored-in f at n bs e h = stored-yes f at n bs e (le-leb (at + n) (length f) h)
+pub stored-in : (n : ℕ) (f : List ℕ) (at : ℕ) (bs : List ℕ) → at + n ≤ length f → stored n f at bs ≡ patch f at bs
+stored-in n f at bs h = stored-yes n f at bs (le-leb (at + n) (length f) h)
 
-pub stored-out : (f : List ℕ) (at n : ℕ) (bs : List ℕ) → length bs ≡ n → length f < at + n → stored f at bs ≡ f
-stored-out f at n bs e h = stored-no f at n bs e (lt-leb (at + n) (length f) h)
+pub stored-out : (n : ℕ) (f : List ℕ) (at : ℕ) (bs : List ℕ) → length f < at + n → stored n f at bs ≡ f
+stored-out n f at bs h = stored-no n f at bs (lt-leb (at + n) (length f) h)
 
 -- ---- what straight-line stores leave
 
@@ -231,23 +231,20 @@ pub record Laid (f : List ℕ) (at : ℕ) (g : List ℕ) (n : ℕ) (x : List ℕ
   pub long : length x ≡ n
   pub same : length g ≡ length f
 
-pub laid-first : {f g : List ℕ} (at n : ℕ) {x : List ℕ} → g ≡ stored f at x → length x ≡ n → at + n ≤ length f → Laid f at g n x
+pub laid-first : {f g : List ℕ} (at n : ℕ) {x : List ℕ} → g ≡ stored n f at x → length x ≡ n → at + n ≤ length f → Laid f at g n x
 laid-first {f} {g} at n {x} e l h =
-    let is = e ∙ stored-in f at n x l h in
+    let is = e ∙ stored-in n f at x h in
     record { is = is; long = l; same = rw is (length-patch f at x (omega arith)) }
 
-pub laid-next : {f g h : List ℕ} {at n : ℕ} {x : List ℕ} (m : ℕ) (y : List ℕ) → Laid f at g n x → h ≡ stored g (at + n) y → length y ≡ m → at + n + m ≤ length f
+pub laid-next : {f g h : List ℕ} {at n : ℕ} {x : List ℕ} (m : ℕ) (y : List ℕ) → Laid f at g n x → h ≡ stored m g (at + n) y → length y ≡ m → at + n + m ≤ length f
     → Laid f at h (n + m) (x ++ y)
 laid-next {f} {g} {h} {at} {n} {x} m y p e l b =
     let lx = p .long in
     let lg = p .same in
     let is : h ≡ patch f at (x ++ y) =
-    e ∙ stored-in g (at + n) m y l (omega arith) ∙ rw (p .is) (patch-join f at n x y lx (omega arith)) in
+    e ∙ stored-in m g (at + n) y (omega arith) ∙ rw (p .is) (patch-join f at n x y lx (omega arith)) in
     let lxy : length (x ++ y) ≡ n + m = simp length-append (omega arith) in
     record { is = is; long = lxy; same = rw is (length-patch f at (x ++ y) (omega arith)) }
-
-pub laid-all : {f g : List ℕ} {at n : ℕ} {x : List ℕ} → Laid f at g n x → at + n ≤ length f → g ≡ stored f at x
-laid-all {f} {g} {at} {n} {x} p h = p .is ∙ sym (stored-in f at n x (p .long) h)
 
 -- ---- runs
 

@@ -28,9 +28,9 @@ part (suc n) f at = getD f at 0 ∷ part n f (at + 1)
 unfoldable pub patch : List ℕ → ℕ → List ℕ → List ℕ
 patch f at bs = take at f ++ bs ++ drop (at + length bs) f
 
--- bs put into f at place `at` where it fits; where it does not, f as it was
-unfoldable pub stored : List ℕ → ℕ → List ℕ → List ℕ
-stored f at bs = cond (leb (at + length bs) (length f)) (patch f at bs) f
+-- the n bytes bs put into f at place `at` where they fit; where they do not, f as it was
+unfoldable pub stored : ℕ → List ℕ → ℕ → List ℕ → List ℕ
+stored n f at bs = cond (leb (at + n) (length f)) (patch f at bs) f
 
 -- the bytes of each element of a list, one after the other
 unfoldable pub run : {A : Type 0} → (A → List ℕ) → List A → List ℕ

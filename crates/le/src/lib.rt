@@ -122,7 +122,7 @@ fn put_here(room: &mut [u8], at: usize, src: &[u8])
 
 // Puts all of src into room at a place.
 pub fn put(room: &mut [u8], at: usize, src: &[u8])
-    ensures { λ _. ⌜ now (room .exit) ≡ stored (now (room .entry)) at (now (src .entry)) ⌝ }
+    ensures { λ _. ⌜ now (room .exit) ≡ stored (length (now (src .entry))) (now (room .entry)) at (now (src .entry)) ⌝ }
 {
     if has(room.len(), at, src.len()) {
         put_here(room, at, src);
@@ -156,7 +156,7 @@ fn put_u64_here(room: &mut [u8], at: usize, x: u64)
 }
 
 pub fn put_u16(room: &mut [u8], at: usize, x: u16)
-    ensures { λ _. ⌜ now (room .exit) ≡ stored (now (room .entry)) at (bytes 2 x) ⌝ }
+    ensures { λ _. ⌜ now (room .exit) ≡ stored 2 (now (room .entry)) at (bytes 2 x) ⌝ }
 {
     if has(room.len(), at, 2) {
         put_u16_here(room, at, x);
@@ -164,7 +164,7 @@ pub fn put_u16(room: &mut [u8], at: usize, x: u16)
 }
 
 pub fn put_u32(room: &mut [u8], at: usize, x: u32)
-    ensures { λ _. ⌜ now (room .exit) ≡ stored (now (room .entry)) at (bytes 4 x) ⌝ }
+    ensures { λ _. ⌜ now (room .exit) ≡ stored 4 (now (room .entry)) at (bytes 4 x) ⌝ }
 {
     if has(room.len(), at, 4) {
         put_u32_here(room, at, x);
@@ -172,7 +172,7 @@ pub fn put_u32(room: &mut [u8], at: usize, x: u32)
 }
 
 pub fn put_u64(room: &mut [u8], at: usize, x: u64)
-    ensures { λ _. ⌜ now (room .exit) ≡ stored (now (room .entry)) at (bytes 8 x) ⌝ }
+    ensures { λ _. ⌜ now (room .exit) ≡ stored 8 (now (room .entry)) at (bytes 8 x) ⌝ }
 {
     if has(room.len(), at, 8) {
         put_u64_here(room, at, x);
@@ -181,7 +181,7 @@ pub fn put_u64(room: &mut [u8], at: usize, x: u64)
 
 // Puts the numbers of xs into room from a place on, 2 bytes each: all of them, or none.
 pub fn put_halves(room: &mut [u8], at: usize, xs: &[u16])
-    ensures { λ _. ⌜ now (room .exit) ≡ stored (now (room .entry)) at (run (bytes 2) (now (xs .entry))) ⌝ }
+    ensures { λ _. ⌜ now (room .exit) ≡ stored (2 * length (now (xs .entry))) (now (room .entry)) at (run (bytes 2) (now (xs .entry))) ⌝ }
 {
     if has(room.len(), at, 2 * xs.len()) {
         put_halves_here(room, at, xs);
@@ -201,7 +201,7 @@ fn put_halves_here(room: &mut [u8], at: usize, xs: &[u16])
 
 // The same, 4 bytes each.
 pub fn put_words(room: &mut [u8], at: usize, xs: &[u32])
-    ensures { λ _. ⌜ now (room .exit) ≡ stored (now (room .entry)) at (run (bytes 4) (now (xs .entry))) ⌝ }
+    ensures { λ _. ⌜ now (room .exit) ≡ stored (4 * length (now (xs .entry))) (now (room .entry)) at (run (bytes 4) (now (xs .entry))) ⌝ }
 {
     if has(room.len(), at, 4 * xs.len()) {
         put_words_here(room, at, xs);

@@ -1,4 +1,4 @@
-use mathlib.Core.Path.{refl, sym, _∙_}
+use mathlib.Core.Path.{sym, _∙_}
 use Prim.Native.Nat.{_+_}
 use borrow.Author.Needs.{needs}
 use borrow.Author.Tests.{leb-true}
@@ -16,12 +16,12 @@ returns : tie.Need-returns
 returns c =
     let s = c .before .before .before .before .before .before .before .before .args in
     c .before .before .put-here .ensures
-    ∙ sym (stored-yes (s .room .now) (s .at) (length (s .src .now)) (s .src .now) refl (sym (c .before .before .before .before .before .has .ensures) ∙ c .before .before .before .before .if1 .taken))
+    ∙ sym (stored-yes (length (s .src .now)) (s .room .now) (s .at) (s .src .now) (sym (c .before .before .before .before .before .has .ensures) ∙ c .before .before .before .before .if1 .taken))
 
 returns-2 : tie.Need-returns-2
 returns-2 c =
     let s = c .before .before .before .before .args in
-    sym (stored-no (s .room .now) (s .at) (length (s .src .now)) (s .src .now) refl (sym (c .before .has .ensures) ∙ c .if1 .left))
+    sym (stored-no (length (s .src .now)) (s .room .now) (s .at) (s .src .now) (sym (c .before .has .ensures) ∙ c .if1 .left))
 
 pub put-spec : {M : Type 1} → statement M
 put-spec = tie.close (tie.spec (λ c κs. search needs) here-requires (λ c. search needs) returns returns-2)

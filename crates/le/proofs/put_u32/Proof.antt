@@ -4,7 +4,7 @@ use borrow.Author.Needs.{needs}
 use borrow.Author.Tests.{leb-true}
 use lib.ListN.{length}
 use Rattle.le.specs.Le.{bytes}
-use Rattle.le.proofs.Laws.{length-bytes, stored-yes, stored-no}
+use Rattle.le.proofs.Laws.{stored-yes, stored-no}
 use Rattle.le.proofs.put_u32.Statement.{statement}
 use Rattle.le.proofs.put_u32.Tie as tie
 
@@ -18,12 +18,12 @@ returns c =
     let h = c .before .before .before .before .before in
     let s = h .before .before .args in
     c .before .before .put-u32-here .ensures
-    ∙ sym (stored-yes (s .room .now) (s .at) 4 (bytes 4 (s .x)) (length-bytes 4 (s .x)) (sym (h .has .ensures) ∙ c .before .before .before .before .if1 .taken))
+    ∙ sym (stored-yes 4 (s .room .now) (s .at) (bytes 4 (s .x)) (sym (h .has .ensures) ∙ c .before .before .before .before .if1 .taken))
 
 returns-2 : tie.Need-returns-2
 returns-2 c =
     let s = c .before .before .before .args in
-    sym (stored-no (s .room .now) (s .at) 4 (bytes 4 (s .x)) (length-bytes 4 (s .x)) (sym (c .before .has .ensures) ∙ c .if1 .left))
+    sym (stored-no 4 (s .room .now) (s .at) (bytes 4 (s .x)) (sym (c .before .has .ensures) ∙ c .if1 .left))
 
 pub put-u32-spec : {M : Type 1} → statement M
 put-u32-spec = tie.close (tie.spec (λ c κs. search needs) here-requires (λ c. search needs) returns returns-2)

@@ -4,7 +4,7 @@ use borrow.Author.Needs.{needs}
 use borrow.Author.Tests.{leb-true}
 use lib.ListN.{length}
 use Rattle.le.specs.Le.{bytes, run}
-use Rattle.le.proofs.Laws.{length-bytes, length-run, stored-yes, stored-no}
+use Rattle.le.proofs.Laws.{stored-yes, stored-no}
 use Rattle.le.proofs.put_words.Statement.{statement}
 use Rattle.le.proofs.put_words.Tie as tie
 
@@ -17,12 +17,12 @@ returns : tie.Need-returns
 returns c =
     let s = c .before .before .before .before .before .before .before .before .args in
     c .before .before .put-words-here .ensures
-    ∙ sym (stored-yes (s .room .now) (s .at) (4 * length (s .xs .now)) (run (bytes 4) (s .xs .now)) (length-run (bytes 4) 4 (length-bytes 4) (s .xs .now)) (sym (c .before .before .before .before .before .has .ensures) ∙ c .before .before .before .before .if1 .taken))
+    ∙ sym (stored-yes (4 * length (s .xs .now)) (s .room .now) (s .at) (run (bytes 4) (s .xs .now)) (sym (c .before .before .before .before .before .has .ensures) ∙ c .before .before .before .before .if1 .taken))
 
 returns-2 : tie.Need-returns-2
 returns-2 c =
     let s = c .before .before .before .before .args in
-    sym (stored-no (s .room .now) (s .at) (4 * length (s .xs .now)) (run (bytes 4) (s .xs .now)) (length-run (bytes 4) 4 (length-bytes 4) (s .xs .now)) (sym (c .before .has .ensures) ∙ c .if1 .left))
+    sym (stored-no (4 * length (s .xs .now)) (s .room .now) (s .at) (run (bytes 4) (s .xs .now)) (sym (c .before .has .ensures) ∙ c .if1 .left))
 
 pub put-words-spec : {M : Type 1} → statement M
 put-words-spec = tie.close (tie.spec (λ c. search needs) (λ c κs. search needs) here-requires (λ c. search needs) returns returns-2)

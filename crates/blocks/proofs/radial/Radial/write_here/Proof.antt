@@ -1,0 +1,28 @@
+-- Each call lays the next run behind those that stand already. Assumes nothing.
+use mathlib.Core.List.{[], _∷_}
+use borrow.Author.Needs.{needs}
+use native.Mathlib.Omega.{arith}
+use Rattle.le.specs.Le.{bytes, run}
+use Rattle.le.proofs.Laws.{length-bytes, length-run, laid-first, laid-next}
+use Rattle.blocks.specs.Radial.{radialBytes}
+use Rattle.blocks.proofs.radial.Radial.write_here.Statement.{statement}
+use Rattle.blocks.proofs.radial.Radial.write_here.Tie as tie
+
+returns : tie.Need-returns
+unfolding radialBytes
+returns c =
+    let p1 = c .before .before in
+    let p0 = p1 .before .before .before .before .before .before in
+    let s = p0 .before .before .before .before in
+    let r = s .args .self in
+    let fits = s .pre in
+    let l0 = laid-first (s .args .at) 44 (p0 .put-words .ensures) (length-run (bytes 4) 4 (length-bytes 4) (r .state ∷ r .«spot_blank» ∷ r .sequence ∷ r .«radial_number» ∷ r .«elevation_number» ∷ r .azimuth ∷ r .elevation ∷ r .seconds ∷ r .microseconds ∷ r .«length_of_data» ∷ r .«moment_number» ∷ [])) (omega arith) in
+    let l1 = laid-next 20 (r .reserved) l0 (rw (p1 .put-20 .ensures .1) at (p1 .put-20 .ensures .0)) (p1 .put-20 .ensures .1) (omega arith) in
+    l1 .is
+
+pub write-here-spec : {M : Type 1} → statement M
+write-here-spec =
+    tie.close
+    (tie.spec
+    (λ c. search needs) (λ c κs. search needs) (λ c. search needs) (λ c κs. search needs) (λ c. search needs)
+    returns)

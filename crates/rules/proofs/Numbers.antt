@@ -1,0 +1,118 @@
+-- A signed number in a range of numbers that are not below 0, by its bits: one law over the width. Assumes nothing.
+use mathlib.Core.Path.{_≡_, refl, sym, ap, _∙_}
+use mathlib.Core.Bool.{Bool, true, false, _&&_, cond}
+use mathlib.Core.Logic.{dite}
+use Prim.Native.Nat.{ℕ, suc, _+_, _*_, _-_, _%_, _^_, _≤_, _<_}
+use native.Mathlib.Decide.{decLt}
+use native.Mathlib.Nat.{one-mul, mod-eq-of-lt}
+use native.Mathlib.Omega.{arith}
+use lib.Dec.{leb, ltb, eqb, lit<}
+use lib.IntN.{ℤ, pos}
+use lib.Pow.{pow-lt}
+use mir.Syntax.{Width, w32}
+use mir.Val.{hbits, toZ}
+use mir.ValLaws.{toZ-pos}
+use borrow.Author.Tests.{le-leb, lt-leb, le-ltb, lt-ltb, eq-eqb, ne-eqb}
+use Rattle.le.proofs.Tests.{eqb-same}
+use Rattle.rules.specs.States.{rhi, mostCuts, opening, closing}
+use Rattle.rules.specs.Ranges.{among, within, notBelowZero, counts, countsInCut}
+
+and-false : (b : Bool) → (b && false) ≡ false
+and-false true = refl
+and-false false = refl
+
+and-true : (b : Bool) → b ≡ (b && true)
+and-true true = refl
+and-true false = refl
+
+pub by-bits : (w : Width) (lo hi x : ℕ) → hi < 2 ^ hbits w → among (pos lo) (pos hi) (toZ w x) ≡ within lo hi x
+unfolding among within
+by-bits w lo hi x h =
+    dite (decLt x (2 ^ hbits w)) (λ k. rw (toZ-pos w x k))
+    (λ k. rw (le-ltb x (2 ^ hbits w) (omega arith), lt-leb x hi (omega arith)) (sym (and-false (leb lo x))))
+
+pub zero-by-bits : (w : Width) (x : ℕ) → notBelowZero (toZ w x) ≡ ltb x (2 ^ hbits w)
+unfolding notBelowZero
+zero-by-bits w x =
+    dite (decLt x (2 ^ hbits w)) (λ k. rw (toZ-pos w x k, lt-ltb x (2 ^ hbits w) k, le-leb 0 x (omega arith)))
+    (λ k. rw (le-ltb x (2 ^ hbits w) (omega arith)))
+
+-- what the tests of a range show
+pub inside : (w : Width) (lo hi x : ℕ) → hi < 2 ^ hbits w → lo ≤ x → x < suc hi → true ≡ among (pos lo) (pos hi) (toZ w x)
+unfolding within
+inside w lo hi x h a b = rw (by-bits w lo hi x h, le-leb lo x a, le-leb x hi (omega arith))
+
+pub below : (w : Width) (lo hi x : ℕ) → hi < 2 ^ hbits w → x < lo → false ≡ among (pos lo) (pos hi) (toZ w x)
+unfolding within
+below w lo hi x h a = rw (by-bits w lo hi x h, lt-leb lo x a)
+
+pub above : (w : Width) (lo hi x : ℕ) → hi < 2 ^ hbits w → suc hi ≤ x → false ≡ among (pos lo) (pos hi) (toZ w x)
+unfolding within
+above w lo hi x h a = rw (by-bits w lo hi x h, lt-leb x hi (omega arith)) (sym (and-false (leb lo x)))
+
+-- exactly n: the bits are n's, and the sign bit is clear
+pub exactly-clear : (w : Width) (n x : ℕ) → x < 2 ^ hbits w → among (pos n) (pos n) (toZ w x) ≡ eqb x n
+unfolding among
+exactly-clear w n x h =
+    rw (toZ-pos w x h)
+    (dite (decLt x n) (λ a. rw (lt-leb n x a, ne-eqb x n (λ e. omega arith)))
+    (λ a. dite (decLt n x) (λ b. rw (le-leb n x (omega arith), lt-leb x n b, ne-eqb x n (λ e. omega arith)))
+    (λ b. rw (le-leb n x (omega arith), le-leb x n (omega arith), eq-eqb x n (omega arith)))))
+
+pub exactly-set : (w : Width) (n x : ℕ) → 2 ^ hbits w ≤ x → among (pos n) (pos n) (toZ w x) ≡ false
+unfolding among
+exactly-set w n x h = rw (le-ltb x (2 ^ hbits w) h)
+
+pub exactly : (w : Width) (n x : ℕ) → n < 2 ^ hbits w → among (pos n) (pos n) (toZ w x) ≡ eqb x n
+exactly w n x h =
+    dite (decLt x (2 ^ hbits w)) (λ a. exactly-clear w n x a)
+    (λ a. exactly-set w n x (omega arith) ∙ sym (ne-eqb x n (λ e. omega arith)))
+
+-- the same range of a number that has no sign
+pub in-range : (lo hi x : ℕ) → lo ≤ x → x < suc hi → within lo hi x ≡ true
+unfolding within
+in-range lo hi x a b = rw (le-leb lo x a, le-leb x hi (omega arith))
+
+pub under : (lo hi x : ℕ) → x < lo → within lo hi x ≡ false
+unfolding within
+under lo hi x a = rw (lt-leb lo x a)
+
+pub over : (lo hi x : ℕ) → suc hi ≤ x → within lo hi x ≡ false
+unfolding within
+over lo hi x a = rw (lt-leb x hi (omega arith)) (and-false (leb lo x))
+
+-- one more than what was counted before it, within a cut: below the sign bit the tests decide
+pub in-cut : (before x : ℕ) → 1 ≤ x → x < 1001 → eqb (x - 1) before ≡ countsInCut before x
+unfolding countsInCut counts
+in-cut before x a b =
+    dite (decLt before 1000)
+    (λ h. rw (exactly-clear w32 (before + 1) x (omega arith), le-leb (before + 1) 1000 (omega arith)) (eqb-same (x - 1) before x (before + 1) (λ e. omega arith) (λ e. omega arith) ∙ and-true (eqb x (before + 1))))
+    (λ h. rw (lt-leb (before + 1) 1000 (omega arith), ne-eqb (x - 1) before (λ e. omega arith)) (sym (and-false (among (pos (before + 1)) (pos (before + 1)) (toZ w32 x)))))
+
+pub out-of-cut : (before x : ℕ) → (1 ≤ x → x < 1001 → ⊥) → false ≡ countsInCut before x
+unfolding countsInCut counts
+out-of-cut before x o =
+    dite (decLt before 1000)
+    (λ h. let small : before + 1 < 2147483648 = omega arith in rw (exactly w32 (before + 1) x small, ne-eqb x (before + 1) (λ e. o (omega arith) (omega arith))))
+    (λ h. rw (lt-leb (before + 1) 1000 (omega arith)) (sym (and-false (among (pos (before + 1)) (pos (before + 1)) (toZ w32 x)))))
+
+-- one bit of a 64-bit word, as the shift makes it
+pub one-bit : (k : ℕ) → k < 64 → (1 * 2 ^ k) % 18446744073709551616 ≡ 2 ^ k
+one-bit k h = rw one-mul (mod-eq-of-lt (pow-lt h))
+
+-- numbers of the state rules, none of which reaches the sign bit
+small-if : (b : Bool) (x y n : ℕ) → x < n → y < n → cond b x y < n
+small-if true x y n h k = h
+small-if false x y n h k = k
+
+pub mostCuts-small : (scan : ℕ) → mostCuts scan < 2147483648
+unfolding mostCuts
+mostCuts-small scan = small-if (rhi scan) 1 50 2147483648 (lit< tt) (lit< tt)
+
+pub opening-small : (scan cut : ℕ) → opening scan cut < 2147483648
+unfolding opening
+opening-small scan cut = small-if (leb cut 1) (cond (rhi scan) 5 3) 0 2147483648 (small-if (rhi scan) 5 3 2147483648 (lit< tt) (lit< tt)) (lit< tt)
+
+pub closing-small : (scan cuts cut : ℕ) → closing scan cuts cut < 2147483648
+unfolding closing
+closing-small scan cuts cut = small-if (ltb cut cuts) 2 (cond (rhi scan) 6 4) 2147483648 (lit< tt) (small-if (rhi scan) 6 4 2147483648 (lit< tt) (lit< tt))

@@ -1,0 +1,11 @@
+use mathlib.Core.Path.{refl}
+use native.Mathlib.Nat.{mod-zero}
+use borrow.Author.Needs.{needs}
+use Rattle.rules.proofs.moments.multiple.Statement.{statement}
+use Rattle.rules.proofs.moments.multiple.Tie as tie
+
+returns : tie.Need-returns
+returns c = rw (c .if1 .taken, mod-zero (c .before .args .x))
+
+pub multiple-spec : {M : Type 1} → statement M
+multiple-spec = tie.close (tie.spec returns (λ c. search needs) (λ c. search needs))

@@ -1,0 +1,20 @@
+use borrow.Author.Needs.{needs}
+use borrow.Author.Tests.{lt-ltb, le-ltb}
+use Rattle.rules.specs.States.{closing}
+use Rattle.rules.proofs.states.closing.Statement.{statement}
+use Rattle.rules.proofs.states.closing.Tie as tie
+
+returns : tie.Need-returns
+unfolding closing
+returns c = rw (lt-ltb _ _ (c .if1 .taken))
+
+returns-2 : tie.Need-returns-2
+unfolding closing
+returns-2 c = rw (le-ltb _ _ (c .before .before .if1 .left), ← c .before .rhi .ensures, c .if2 .taken)
+
+returns-3 : tie.Need-returns-3
+unfolding closing
+returns-3 c = rw (le-ltb _ _ (c .before .before .if1 .left), ← c .before .rhi .ensures, c .if2 .left)
+
+pub closing-spec : {M : Type 1} → statement M
+closing-spec = tie.close (tie.spec returns (λ c κs. search needs) returns-2 returns-3)

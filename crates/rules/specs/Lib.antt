@@ -1,0 +1,3 @@
+pub mod Ranges
+pub mod States
+pub mod Moments

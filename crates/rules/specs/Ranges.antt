@@ -1,0 +1,43 @@
+-- When a field is in its range (document 01, "Field rules and refusal numbers").
+use mathlib.Core.Bool.{Bool, _&&_, cond}
+use Prim.Native.Nat.{ℕ, _+_}
+use lib.Dec.{leb}
+use lib.Ieee.{Float, binary32, ofBits, ofInt, le}
+use lib.IntN.{ℤ, pos}
+use lib.Signed.{leZ}
+use Rattle.le.specs.Le.{int}
+
+-- from lo to hi, both counted in: "lo..hi"
+unfoldable pub among : ℤ → ℤ → ℤ → Bool
+among lo hi z = leZ lo z && leZ z hi
+
+-- exactly n
+abbrev pub is : ℕ → ℤ → Bool
+is n z = among (pos n) (pos n) z
+
+-- the same range of a number that has no sign
+unfoldable pub within : ℕ → ℕ → ℕ → Bool
+within lo hi x = leb lo x && leb x hi
+
+-- numbers 7 and 17: not below 0
+unfoldable pub notBelowZero : ℤ → Bool
+notBelowZero z = leZ (pos 0) z
+
+-- numbers 12 and 13: n is one more than what was counted before it
+unfoldable pub counts : ℕ → ℕ → Bool
+counts before n = is (before + 1) (int n)
+
+-- number 13: the most radials that a cut may have
+abbrev pub mostRadials : ℕ
+mostRadials = 1000
+
+unfoldable pub countsInCut : ℕ → ℕ → Bool
+countsInCut before n = counts before n && leb (before + 1) mostRadials
+
+-- numbers 3, 4, 15 and 16: the IEEE single with these bits lies between two whole numbers. A NaN lies in no range, and
+-- minus zero is zero.
+unfoldable pub between : Float → Float → Float → Bool
+between lo hi x = le lo x && le x hi
+
+unfoldable pub angle : ℤ → ℤ → ℕ → Bool
+angle lo hi bits = between (ofInt binary32 lo) (ofInt binary32 hi) (ofBits binary32 bits)

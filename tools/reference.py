@@ -1,0 +1,434 @@
+#!/usr/bin/env python3
+"""Reference reader and writer of base data volumes, after document 01.
+
+Written from the text alone, to work out what the library and the listing
+program must answer. Slow and plain on purpose.
+
+    python3 tools/reference.py list FILE      (or - for standard input)
+
+Every refusal has one shape: ('refused', number, place).
+"""
+import struct
+import sys
+from collections import namedtuple
+
+MAGIC = 0x4D545352
+LISTING_TAKES = 65536          # "Numbers to try": the listing's part of the input
+INT_MAX = 2**31 - 1
+
+# --------------------------------------------------------------------------
+# "Blocks, with byte places inside each": (name, place, struct format).
+# i = INT, h = SHORT, f = FLOAT, Q = LONG carried as 64 bits (both are masks),
+# Ns = N bytes of text or reserved.
+SIZES = {'generic': 32, 'site': 128, 'task': 256, 'cut': 256, 'radial': 64, 'moment': 32}
+
+FIELDS = {
+    'generic': [                                        # table 2-2
+        ('magic', 0, 'i'), ('major', 4, 'h'), ('minor', 6, 'h'),
+        ('generic type', 8, 'i'), ('product type', 12, 'i'), ('reserved', 16, '16s')],
+    'site': [                                           # table 2-3
+        ('code', 0, '8s'), ('name', 8, '32s'), ('latitude', 40, 'f'),
+        ('longitude', 44, 'f'), ('antenna height', 48, 'i'), ('ground height', 52, 'i'),
+        ('frequency', 56, 'f'), ('beam width H', 60, 'f'), ('beam width V', 64, 'f'),
+        ('RDA version', 68, 'i'), ('radar type', 72, 'h'), ('reserved', 74, '54s')],
+    'task': [                                           # table 2-4
+        ('name', 0, '32s'), ('description', 32, '128s'), ('polarization', 160, 'i'),
+        ('scan type', 164, 'i'), ('pulse width', 168, 'i'), ('start time', 172, 'i'),
+        ('cut number', 176, 'i'), ('noise H', 180, 'f'), ('noise V', 184, 'f'),
+        ('calibration H', 188, 'f'), ('calibration V', 192, 'f'),
+        ('noise temperature H', 196, 'f'), ('noise temperature V', 200, 'f'),
+        ('ZDR', 204, 'f'), ('phase', 208, 'f'), ('LDR', 212, 'f'),
+        ('reserved', 216, '40s')],
+    'cut': [                                            # table 2-5, in its order
+        ('process mode', 0, 'i'), ('wave form', 4, 'i'), ('PRF 1', 8, 'f'),
+        ('PRF 2', 12, 'f'), ('unfold mode', 16, 'i'), ('azimuth', 20, 'f'),
+        ('elevation', 24, 'f'), ('start angle', 28, 'f'), ('end angle', 32, 'f'),
+        ('angular resolution', 36, 'f'), ('scan speed', 40, 'f'),
+        ('log resolution', 44, 'i'), ('Doppler resolution', 48, 'i'),
+        ('maximum range 1', 52, 'i'), ('maximum range 2', 56, 'i'),
+        ('start range', 60, 'i'), ('sample 1', 64, 'i'), ('sample 2', 68, 'i'),
+        ('phase mode', 72, 'i'), ('atmospheric loss', 76, 'f'),
+        ('Nyquist speed', 80, 'f'), ('moments mask', 84, 'Q'), ('size mask', 92, 'Q'),
+        ('filter mask', 100, 'i'), ('SQI threshold', 104, 'f'),
+        ('SIG threshold', 108, 'f'), ('CSR threshold', 112, 'f'),
+        ('LOG threshold', 116, 'f'), ('CPA threshold', 120, 'f'),
+        ('PMI threshold', 124, 'f'), ('DPLOG threshold', 128, 'f'),
+        ('thresholds reserved', 132, '4s'), ('dBT mask', 136, 'i'),
+        ('dBZ mask', 140, 'i'), ('velocity mask', 144, 'i'),
+        ('spectrum width mask', 148, 'i'), ('DP mask', 152, 'i'),
+        ('mask reserved', 156, '12s'), ('scan sync', 168, 'i'), ('direction', 172, 'i'),
+        ('clutter classifier', 176, 'h'), ('clutter filter', 178, 'h'),
+        ('clutter notch width', 180, 'h'), ('clutter window', 182, 'h'),
+        ('reserved', 184, '72s')],
+    'radial': [                                         # table 3-1
+        ('state', 0, 'i'), ('spot blank', 4, 'i'), ('sequence', 8, 'i'),
+        ('radial number', 12, 'i'), ('elevation number', 16, 'i'),
+        ('azimuth', 20, 'f'), ('elevation', 24, 'f'), ('seconds', 28, 'i'),
+        ('microseconds', 32, 'i'), ('length of data', 36, 'i'),
+        ('moment number', 40, 'i'), ('reserved', 44, '20s')],
+    'moment': [                                         # table 3-2
+        ('type', 0, 'i'), ('scale', 4, 'i'), ('offset', 8, 'i'),
+        ('bin length', 12, 'h'), ('flags', 14, 'h'), ('length', 16, 'i'),
+        ('reserved', 20, '12s')],
+}
+PLACE = {(kind, name): place for kind, fields in FIELDS.items() for name, place, _ in fields}
+FORMAT = {(kind, name): '<' + fmt for kind, fields in FIELDS.items() for name, _, fmt in fields}
+
+for _kind, _fields in FIELDS.items():                   # every byte belongs to one field
+    _end = 0
+    for _name, _place, _fmt in _fields:
+        assert _place == _end, (_kind, _name)
+        _end += struct.calcsize('<' + _fmt)
+    assert _end == SIZES[_kind], _kind
+
+
+def unpack(kind, block):
+    """The record of a block: field name -> value."""
+    return {name: struct.unpack_from('<' + fmt, block, place)[0]
+            for name, place, fmt in FIELDS[kind]}
+
+
+# --------------------------------------------------------------------------
+# "Field rules and refusal numbers", the table. A rule is
+# (number, field, lowest, highest, further condition or None); the condition
+# gets the value, the block's own record and Where it stands in the volume.
+# NaN is in no range and minus zero is zero, as Python compares floats.
+
+class Where:
+    """What the rules need to know of the blocks before."""
+    rhi = False          # scan type is 2 or 5
+    cuts = 0             # cut number of the task
+    cut = 0              # number of the cut that the radial is in, from 1
+    before = 0           # whole radials before, in the volume
+    in_cut = 0           # whole radials before, in the cut
+    mask = sizes = 0     # the cut's moments mask and size mask
+    left = 0             # bytes of the length of data not yet used by moments
+    after = 0            # moments after this one in the radial
+    seen = ()            # types before this one in the radial
+
+
+def is_rhi(scan_type):
+    return scan_type in (2, 5)
+
+
+def bit(mask, t):
+    """"Masks": type t is bit t-1."""
+    return mask >> (t - 1) & 1
+
+
+def cut_number_ok(v, f, at):                            # 8, second clause
+    return v == 1 or not is_rhi(f['scan type'])
+
+
+def state_ok(v, f, at):                                 # 10, "States"
+    if at.in_cut == 0:
+        if at.cut == 1:
+            return v == (5 if at.rhi else 3)
+        return v == 0
+    closing = 2 if at.cut < at.cuts else 6 if at.rhi else 4
+    return v == 1 or v == closing
+
+
+def length_ok(v, f, at):                                # 24, "Tiling"
+    if v % f['bin length'] != 0:
+        return False
+    left = at.left - 32 - v
+    return left == 0 if at.after == 0 else left >= 33 * at.after
+
+
+RULES = {
+    'generic': [
+        (1, 'magic', MAGIC, MAGIC, None),
+        (2, 'generic type', 1, 1, None)],
+    'site': [
+        (3, 'latitude', -90, 90, None),
+        (4, 'longitude', -180, 180, None)],
+    'task': [
+        (5, 'polarization', 1, 4, None),
+        (6, 'scan type', 0, 6, None),
+        (7, 'start time', 0, INT_MAX, None),
+        (8, 'cut number', 1, 50, cut_number_ok)],
+    'cut': [
+        (9, 'process mode', 1, 2, None),
+        (9, 'wave form', 0, 6, None),
+        (9, 'unfold mode', 1, 4, None),
+        (9, 'log resolution', 1, 5000, None),
+        (9, 'Doppler resolution', 1, 5000, None),
+        (9, 'phase mode', 1, 3, None)],
+    'radial': [
+        (10, 'state', 0, 6, state_ok),
+        (11, 'spot blank', 0, 1, None),
+        (12, 'sequence', 1, INT_MAX, lambda v, f, at: v == at.before + 1),
+        (13, 'radial number', 1, 1000, lambda v, f, at: v == at.in_cut + 1),
+        (14, 'elevation number', 1, 50, lambda v, f, at: v == at.cut),
+        (15, 'azimuth', 0, 360, None),
+        (16, 'elevation', -2, 90, None),
+        (17, 'seconds', 0, INT_MAX, None),
+        (17, 'microseconds', 0, 999999, None),
+        (18, 'length of data', 1, 100000, None),
+        (19, 'moment number', 1, 64, lambda v, f, at: 33 * v <= f['length of data'])],
+    'moment': [
+        (20, 'type', 1, 64, lambda v, f, at: v not in at.seen and bit(at.mask, v) == 1),
+        (21, 'scale', 1, 32768, None),
+        (22, 'offset', 0, 32768, None),
+        (23, 'bin length', 1, 2, lambda v, f, at: v == 1 + bit(at.sizes, f['type'])),
+        (24, 'length', 1, 32768, length_ok)],
+    'data': [],
+}
+for _kind, _rules in RULES.items():                     # fields in byte order
+    _places = [PLACE[_kind, _rule[1]] for _rule in _rules]
+    assert _places == sorted(_places), _kind
+
+
+# --------------------------------------------------------------------------
+# Reading: "What reading tells".
+Cut = namedtuple('Cut', 'mask sizes')
+Block = namedtuple('Block', 'kind place end')
+Radial = namedtuple('Radial', 'sequence place end state cut moments')
+Moment = namedtuple('Moment', 'type header_place place length bin_length scale offset')
+# kind 0 below threshold, 1 range folded, 2 not scanned, 3 unknown, 4 reserved;
+# 5 is a value: float, exact fraction (not reduced), hundredths
+Gate = namedtuple('Gate', 'kind value numerator denominator hundredths')
+Tally = namedtuple('Tally', 'radials kinds')
+
+
+class End(Exception):
+    """Reading ends here with this verdict."""
+
+
+def refused(number, place=0):
+    return ('refused', number, place)
+
+
+class Reading:
+    def __init__(self, data):
+        self.data = data
+        self.verdict = None    # 'complete', ('open', missing), ('refused', number, place)
+        self.bytes_read = 0    # end of the last accepted block
+        self.radials = []      # whole radials
+        self.cuts = []         # accepted cuts
+        self.blocks = []       # accepted blocks
+        self.due = 'generic'   # kind of the block that is due (None when complete)
+
+    def take(self, kind, at, size=None):
+        """Accept the block that is due and give its record, or end the reading."""
+        place, size = self.bytes_read, SIZES.get(kind, size)
+        self.due = kind
+        missing = place + size - len(self.data)
+        if missing > 0:                                 # checked only when all is there
+            raise End(('open', missing))
+        record = {} if kind == 'data' else unpack(kind, self.data[place:place + size])
+        for number, name, lo, hi, further in RULES[kind]:
+            v = record[name]
+            if not lo <= v <= hi or further and not further(v, record, at):
+                raise End(refused(number, place + PLACE[kind, name]))
+        self.bytes_read = place + size
+        self.blocks.append(Block(kind, place, place + size))
+        return record
+
+    def walk(self):
+        at = Where()
+        self.take('generic', at)
+        self.take('site', at)
+        task = self.take('task', at)
+        at.rhi, at.cuts = is_rhi(task['scan type']), task['cut number']
+        for _ in range(at.cuts):
+            record = self.take('cut', at)
+            self.cuts.append(Cut(record['moments mask'], record['size mask']))
+        for at.cut in range(1, at.cuts + 1):
+            at.mask, at.sizes = self.cuts[at.cut - 1]
+            at.in_cut = 0
+            while self.radial_taken(at) not in (2, 4, 6):   # a closing state ends the cut
+                pass
+        self.due = None
+        if len(self.data) > self.bytes_read:
+            raise End(refused(25, self.bytes_read))
+        raise End('complete')
+
+    def radial_taken(self, at):
+        """One radial, header to last data byte; gives its state."""
+        place = self.bytes_read
+        head = self.take('radial', at)
+        # "Tiling": the length of data excludes the radial header
+        at.left, at.seen, moments = head['length of data'], set(), []
+        for at.after in reversed(range(head['moment number'])):
+            header_place = self.bytes_read
+            m = self.take('moment', at)
+            moments.append(Moment(m['type'], header_place, self.bytes_read, m['length'],
+                                  m['bin length'], m['scale'], m['offset']))
+            self.take('data', at, m['length'])
+            at.left -= 32 + m['length']
+            at.seen.add(m['type'])
+        at.before += 1
+        at.in_cut += 1
+        self.radials.append(Radial(head['sequence'], place, self.bytes_read,
+                                   head['state'], at.cut, moments))
+        return head['state']
+
+    # Questions, on whole radials whichever verdict is told. Order: 30, 31, 32.
+
+    def radial(self, n):
+        """(record's bytes, place) of radial n, from 1."""
+        if not 1 <= n <= len(self.radials):
+            return refused(30)
+        place = self.radials[n - 1].place
+        return self.data[place:place + 64], place
+
+    def find(self, n, t):
+        """The Moment of type t in radial n."""
+        if not 1 <= n <= len(self.radials):
+            return refused(30)
+        for m in self.radials[n - 1].moments:
+            if m.type == t:
+                return m
+        return refused(31)
+
+    def moment(self, n, t):
+        """(header's bytes, place of the data, the data)."""
+        m = self.find(n, t)
+        if not isinstance(m, Moment):
+            return m
+        return (self.data[m.header_place:m.header_place + 32], m.place,
+                self.data[m.place:m.place + m.length])
+
+    def gate(self, n, t, i):
+        """Gate i, from 0."""
+        m = self.find(n, t)
+        if not isinstance(m, Moment):
+            return m
+        if not 0 <= i < m.length // m.bin_length:
+            return refused(32)
+        start = m.place + i * m.bin_length
+        code = int.from_bytes(self.data[start:start + m.bin_length], 'little')
+        return gate_of(code, m.scale, m.offset)
+
+    def gates(self, n, t):
+        """All gates of a moment that is there."""
+        m = self.find(n, t)
+        return [self.gate(n, t, i) for i in range(m.length // m.bin_length)]
+
+    def row(self, n, t, kinds, hundredths):
+        """Fill two lent lists; the number of gates. Order: 30, 31, 33."""
+        m = self.find(n, t)
+        if not isinstance(m, Moment):
+            return m
+        gates = self.gates(n, t)
+        if min(len(kinds), len(hundredths)) < len(gates):
+            return refused(33)
+        for i, g in enumerate(gates):                   # places past these keep their contents
+            kinds[i] = g.kind
+            hundredths[i] = g.hundredths if g.kind == 5 else 0
+        return len(gates)
+
+    def tally(self, cut, t):
+        """Whole radials of the cut that carry the type, and their six kinds of gate."""
+        if not 1 <= cut <= len(self.cuts):
+            return refused(30)
+        radials, kinds = 0, [0] * 6
+        for r in self.radials:
+            if r.cut == cut and any(m.type == t for m in r.moments):
+                radials += 1
+                for g in self.gates(r.sequence, t):
+                    kinds[g.kind] += 1
+        return Tally(radials, kinds) if radials else refused(31)
+
+
+def gate_of(code, scale, offset):
+    """What a code says: five special codes, or a value."""
+    if code < 5:
+        return Gate(code, None, None, None, None)
+    n = code - offset
+    return Gate(5, float(n) / float(scale), n, scale, hundredths_of(n, scale))
+
+
+def hundredths_of(n, d):
+    """100 n / d to nearest, halves away from zero, in whole numbers."""
+    size = (2 * 100 * abs(n) + d) // (2 * d)
+    return -size if n < 0 else size
+
+
+def read(data):
+    r = Reading(bytes(data))
+    try:
+        r.walk()
+    except End as end:
+        r.verdict = end.args[0]
+    return r
+
+
+# --------------------------------------------------------------------------
+# "The house index".
+
+def index(data, room=None):
+    """The index's bytes; with a room (its length), 33 where it is too short."""
+    r = read(data)
+    if r.verdict != 'complete':
+        return refused(36)
+    per_cut = [sum(q.cut == c for q in r.radials) for c in range(1, len(r.cuts) + 1)]
+    out = struct.pack('<B', len(per_cut)) + b''.join(struct.pack('<H', n) for n in per_cut)
+    out += struct.pack('<I', len(r.radials))
+    out += b''.join(struct.pack('<Q', q.place) for q in r.radials)
+    return refused(33) if room is not None and room < len(out) else out
+
+
+def index_right(data, idx):
+    """Right exactly when the file is complete and the bytes are its index."""
+    return read(data).verdict == 'complete' and bytes(idx) == index(data)
+
+
+# --------------------------------------------------------------------------
+# "Writing". The state here is only the count of bytes written.
+
+def write(written, room, kind, block):
+    """Store a block in room (a bytearray); the new count, or a refusal.
+    Order: 37, 25, 34, the table's checks, 35, 33."""
+    if not 0 <= written <= len(room):
+        return refused(37)
+    r = read(room[:written])
+    if r.bytes_read != written or r.verdict[0] == 'refused':
+        return refused(37)                              # neither complete nor at a block's end
+    if r.verdict == 'complete':
+        return refused(25, written)
+    if kind != r.due:
+        return refused(34, written)
+    if kind == 'data':                                  # no table check concerns data
+        if len(block) != r.verdict[1]:
+            return refused(35, written)
+    else:
+        assert len(block) == SIZES[kind]
+        told = read(r.data + block).verdict
+        if told[0] == 'refused':
+            return told
+    if written + len(block) > len(room):
+        return refused(33, written)
+    room[written:written + len(block)] = block
+    return written + len(block)
+
+
+# --------------------------------------------------------------------------
+# The listing program ("Numbers to try", at the end).
+
+def listing(data):
+    r = read(data[:LISTING_TAKES])
+    words = (r.verdict,) if r.verdict == 'complete' else r.verdict
+    lines = [('verdict',) + words + (r.bytes_read, len(r.radials))]
+    for q in r.radials:
+        lines.append(('radial', q.sequence, q.place, q.state, q.cut))
+        for m in q.moments:
+            lines.append(('moment', m.type, m.place, m.length // m.bin_length))
+    return ''.join(' '.join(map(str, line)) + '\n' for line in lines)
+
+
+def main(args):
+    if len(args) != 2 or args[0] != 'list':
+        sys.exit('usage: reference.py list FILE|-')
+    if args[1] == '-':
+        data = sys.stdin.buffer.read(LISTING_TAKES)
+    else:
+        with open(args[1], 'rb') as f:
+            data = f.read(LISTING_TAKES)
+    sys.stdout.write(listing(data))
+
+
+if __name__ == '__main__':
+    main(sys.argv[1:])
