@@ -5,11 +5,11 @@ ghost use Rattle.blocks.specs.Check.{also as alsoOf};
 pub enum Check {
     Fine,
     // The refusal's number, and the field's place in the block.
-    Broken(u32, usize),
+    Broken(u32, u8),
 }
 
 // What the rules so far say, and one rule more.
-pub(crate) fn also(so_far: Check, holds: bool, number: u32, place: usize) -> Check
+pub(crate) fn also(so_far: Check, holds: bool, number: u32, place: u8) -> Check
     ensures { λ r. ⌜ r ≡ alsoOf «so_far» holds number place ⌝ }
 {
     match so_far {

@@ -295,32 +295,37 @@ impl Cut {
             Check::Fine,
             ranges::process_mode_ok(self.process_mode),
             9,
-            Self::PROCESS_MODE,
+            Self::PROCESS_MODE as u8,
         );
-        let v = also(v, ranges::wave_form_ok(self.wave_form), 9, Self::WAVE_FORM);
+        let v = also(
+            v,
+            ranges::wave_form_ok(self.wave_form),
+            9,
+            Self::WAVE_FORM as u8,
+        );
         let v = also(
             v,
             ranges::unfold_mode_ok(self.unfold_mode),
             9,
-            Self::UNFOLD_MODE,
+            Self::UNFOLD_MODE as u8,
         );
         let v = also(
             v,
             ranges::resolution_ok(self.log_resolution),
             9,
-            Self::LOG_RESOLUTION,
+            Self::LOG_RESOLUTION as u8,
         );
         let v = also(
             v,
             ranges::resolution_ok(self.doppler_resolution),
             9,
-            Self::DOPPLER_RESOLUTION,
+            Self::DOPPLER_RESOLUTION as u8,
         );
         let v = also(
             v,
             ranges::phase_mode_ok(self.phase_mode),
             9,
-            Self::PHASE_MODE,
+            Self::PHASE_MODE as u8,
         );
         v
     }

@@ -87,12 +87,12 @@ impl Generic {
     pub fn check(self) -> Check
         ensures { λ r. ⌜ r ≡ genericCheck self ⌝ }
     {
-        let v = also(Check::Fine, magic_ok(self.magic), 1, Self::MAGIC);
+        let v = also(Check::Fine, magic_ok(self.magic), 1, Self::MAGIC as u8);
         let v = also(
             v,
             ranges::generic_type_ok(self.generic_type),
             2,
-            Self::GENERIC_TYPE,
+            Self::GENERIC_TYPE as u8,
         );
         v
     }

@@ -103,21 +103,21 @@ impl Moment {
             Check::Fine,
             moments::type_ok(due.mask, due.seen, self.data_type),
             20,
-            Self::DATA_TYPE,
+            Self::DATA_TYPE as u8,
         );
-        let v = also(v, ranges::scale_ok(self.scale), 21, Self::SCALE);
-        let v = also(v, ranges::offset_ok(self.offset), 22, Self::OFFSET);
+        let v = also(v, ranges::scale_ok(self.scale), 21, Self::SCALE as u8);
+        let v = also(v, ranges::offset_ok(self.offset), 22, Self::OFFSET as u8);
         let v = also(
             v,
             moments::bin_length_ok(due.sizes, self.data_type, self.bin_length),
             23,
-            Self::BIN_LENGTH,
+            Self::BIN_LENGTH as u8,
         );
         let v = also(
             v,
             moments::length_ok(due.todo, due.left, self.bin_length, self.length),
             24,
-            Self::LENGTH,
+            Self::LENGTH as u8,
         );
         v
     }

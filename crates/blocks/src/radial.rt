@@ -133,52 +133,62 @@ impl Radial {
             Check::Fine,
             states::state_ok(due.scan_type, due.cuts, due.cut, due.in_cut, self.state),
             10,
-            Self::STATE,
+            Self::STATE as u8,
         );
         let v = also(
             v,
             ranges::spot_blank_ok(self.spot_blank),
             11,
-            Self::SPOT_BLANK,
+            Self::SPOT_BLANK as u8,
         );
         let v = also(
             v,
             ranges::sequence_ok(due.before, self.sequence),
             12,
-            Self::SEQUENCE,
+            Self::SEQUENCE as u8,
         );
         let v = also(
             v,
             ranges::radial_number_ok(due.in_cut, self.radial_number),
             13,
-            Self::RADIAL_NUMBER,
+            Self::RADIAL_NUMBER as u8,
         );
         let v = also(
             v,
             ranges::elevation_number_ok(due.cut, self.elevation_number),
             14,
-            Self::ELEVATION_NUMBER,
+            Self::ELEVATION_NUMBER as u8,
         );
-        let v = also(v, angles::azimuth_ok(self.azimuth), 15, Self::AZIMUTH);
-        let v = also(v, angles::elevation_ok(self.elevation), 16, Self::ELEVATION);
-        let v = also(v, ranges::not_below_zero(self.seconds), 17, Self::SECONDS);
+        let v = also(v, angles::azimuth_ok(self.azimuth), 15, Self::AZIMUTH as u8);
+        let v = also(
+            v,
+            angles::elevation_ok(self.elevation),
+            16,
+            Self::ELEVATION as u8,
+        );
+        let v = also(
+            v,
+            ranges::not_below_zero(self.seconds),
+            17,
+            Self::SECONDS as u8,
+        );
         let v = also(
             v,
             ranges::microseconds_ok(self.microseconds),
             17,
-            Self::MICROSECONDS,
+            Self::MICROSECONDS as u8,
         );
         let v = also(
             v,
             ranges::length_of_data_ok(self.length_of_data),
             18,
-            Self::LENGTH_OF_DATA,
+            Self::LENGTH_OF_DATA as u8,
         );
         let v = also(
             v,
             moments::moment_number_ok(self.length_of_data, self.moment_number),
             19,
-            Self::MOMENT_NUMBER,
+            Self::MOMENT_NUMBER as u8,
         );
         v
     }

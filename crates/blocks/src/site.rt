@@ -127,9 +127,14 @@ impl Site {
             Check::Fine,
             angles::latitude_ok(self.latitude),
             3,
-            Self::LATITUDE,
+            Self::LATITUDE as u8,
         );
-        let v = also(v, angles::longitude_ok(self.longitude), 4, Self::LONGITUDE);
+        let v = also(
+            v,
+            angles::longitude_ok(self.longitude),
+            4,
+            Self::LONGITUDE as u8,
+        );
         v
     }
 }

@@ -153,20 +153,25 @@ impl Task {
             Check::Fine,
             ranges::polarization_ok(self.polarization),
             5,
-            Self::POLARIZATION,
+            Self::POLARIZATION as u8,
         );
-        let v = also(v, ranges::scan_type_ok(self.scan_type), 6, Self::SCAN_TYPE);
+        let v = also(
+            v,
+            ranges::scan_type_ok(self.scan_type),
+            6,
+            Self::SCAN_TYPE as u8,
+        );
         let v = also(
             v,
             ranges::not_below_zero(self.start_time),
             7,
-            Self::START_TIME,
+            Self::START_TIME as u8,
         );
         let v = also(
             v,
             states::cut_number_ok(self.scan_type, self.cut_number),
             8,
-            Self::CUT_NUMBER,
+            Self::CUT_NUMBER as u8,
         );
         v
     }

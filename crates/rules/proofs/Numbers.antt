@@ -12,7 +12,7 @@ use lib.Pow.{pow-lt}
 use mir.Syntax.{Width, w32}
 use mir.Val.{hbits, toZ}
 use mir.ValLaws.{toZ-pos}
-use borrow.Author.Tests.{le-leb, lt-leb, le-ltb, lt-ltb, eq-eqb, ne-eqb}
+use borrow.Author.Tests.{le-leb, lt-leb, le-ltb, lt-ltb, eq-eqb, ne-eqb, eqb-true}
 use Rattle.le.proofs.Tests.{eqb-same}
 use Rattle.rules.specs.States.{rhi, mostCuts, opening, closing}
 use Rattle.rules.specs.Ranges.{among, within, notBelowZero, counts, countsInCut}
@@ -116,3 +116,11 @@ opening-small scan cut = small-if (leb cut 1) (cond (rhi scan) 5 3) 0 2147483648
 pub closing-small : (scan cuts cut : ℕ) → closing scan cuts cut < 2147483648
 unfolding closing
 closing-small scan cuts cut = small-if (ltb cut cuts) 2 (cond (rhi scan) 6 4) 2147483648 (lit< tt) (small-if (rhi scan) 6 4 2147483648 (lit< tt) (lit< tt))
+
+-- a count that is right is one more than what was counted before it
+pub counts-is : (before n : ℕ) → counts before n ≡ true → n ≡ before + 1
+unfolding counts
+counts-is before n e =
+    dite (decLt n 2147483648)
+    (λ h. eqb-true n (before + 1) (sym (exactly-clear w32 (before + 1) n h) ∙ e))
+    (λ h. let k = exactly-set w32 (before + 1) n (omega arith) in absurd (let z : _≡_ {A = ℕ} 0 1 = cc in omega arith))

@@ -1,0 +1,66 @@
+-- Laws of specs/Codes: how many codes there are and which stands at each place, over the width; and what they are at
+-- one byte and at two. Assumes nothing.
+use mathlib.Core.Path.{_≡_, refl, ap, sym, _∙_}
+use mathlib.Core.List.{List}
+use Prim.Native.Nat.{ℕ, zero, suc, _+_, _*_, _/_, _≤_, _<_}
+use native.Mathlib.Nat.{add-zero, zero-add, suc-mul, zero-mul, mul-one, mul-comm, div-one, div-le-self}
+use native.Mathlib.Omega.{arith}
+use lib.ListN.{length, getD}
+use lib.Seq.{ext-getD}
+use borrow.Author.Tests.{eq-eqb, ne-eqb}
+use Rattle.le.specs.Le.{le, items}
+use Rattle.gates.specs.Codes.{widthOf, codesOf}
+
+module _ {A : Type 0} (dec : List ℕ → ℕ → A) (k : ℕ) where
+  length-items : (n : ℕ) (f : List ℕ) (at : ℕ) → length (items dec k n f at) ≡ n
+  unfolding items
+  length-items zero f at = refl
+  length-items (suc n) f at = ap suc (length-items n f (at + k))
+
+  getD-items : (n : ℕ) (f : List ℕ) (at i : ℕ) (d : A) → i < n → getD (items dec k n f at) i d ≡ dec f (at + i * k)
+  unfolding items
+  getD-items zero f at i d h = absurd (omega arith)
+  getD-items (suc n) f at zero d h = rw (zero-mul, add-zero)
+  getD-items (suc n) f at (suc i) d h =
+      let e : at + suc i * k ≡ at + k + i * k = rw suc-mul (omega arith) in
+      getD-items n f (at + k) i d (omega arith) ∙ ap (dec f) (sym e)
+
+pub length-codes : (bin : ℕ) (bytes : List ℕ) → length (codesOf bin bytes) ≡ length bytes / widthOf bin
+unfolding codesOf
+length-codes bin bytes = length-items (le (widthOf bin)) (widthOf bin) (length bytes / widthOf bin) bytes 0
+
+pub codes-le : (bin : ℕ) (bytes : List ℕ) → length (codesOf bin bytes) ≤ length bytes
+codes-le bin bytes = rw (length-codes bin bytes) (div-le-self (length bytes) (widthOf bin))
+
+-- the code at each place
+pub code-is : (bin : ℕ) (bytes : List ℕ) (i : ℕ) → i < length (codesOf bin bytes)
+    → getD (codesOf bin bytes) i 0 ≡ le (widthOf bin) bytes (i * widthOf bin)
+unfolding codesOf
+code-is bin bytes i h =
+    let n = length bytes / widthOf bin in
+    let w = widthOf bin in
+    getD-items (le w) w n bytes 0 i 0 (omega (arith, length-items (le w) w n bytes 0)) ∙ ap (le w bytes) (zero-add (i * w))
+
+module _ (bin : ℕ) (bytes : List ℕ) (one : bin ≡ 1) where
+  width-one : widthOf bin ≡ 1
+  width-one = rw (eq-eqb bin 1 one)
+
+  pub length-one : length (codesOf bin bytes) ≡ length bytes
+  length-one = length-codes bin bytes ∙ rw (width-one, div-one)
+
+  -- a code of one byte is that byte
+  pub codes-one : codesOf bin bytes ≡ bytes
+  unfolding le
+  codes-one = ext-getD 0 (codesOf bin bytes) bytes length-one (λ i h. code-is bin bytes i h ∙ rw (width-one, mul-one) (omega arith))
+
+module _ (bin : ℕ) (bytes : List ℕ) (two : bin ≡ 1 → ⊥) where
+  width-two : widthOf bin ≡ 2
+  width-two = rw (ne-eqb bin 1 two)
+
+  pub length-two : length (codesOf bin bytes) ≡ length bytes / 2
+  length-two = length-codes bin bytes ∙ rw width-two
+
+  -- a code of two bytes, the low one first
+  pub code-two : (i : ℕ) → i < length (codesOf bin bytes) → getD (codesOf bin bytes) i 0 ≡ getD bytes (2 * i) 0 + 256 * getD bytes (2 * i + 1) 0
+  unfolding le
+  code-two i h = code-is bin bytes i h ∙ rw (width-two, mul-comm i 2) (omega arith)

@@ -1,0 +1,48 @@
+-- Laws of specs/Counting: counts of lists put together add up, and every gate is counted once. Assumes nothing.
+use mathlib.Core.Path.{_≡_, refl, sym}
+use mathlib.Core.Bool.{cond}
+use mathlib.Core.List.{List, [], _∷_, _++_, map, map-append}
+use Prim.Native.Nat.{ℕ, zero, suc, _+_, _<_}
+use native.Mathlib.Nat.{add-assoc, zero-add}
+use native.Mathlib.Numerals.{add-one}
+use native.Mathlib.Omega.{arith}
+use lib.Dec.{eqb}
+use lib.ListN.{length, getD, take}
+use lib.Seq.{take-suc}
+use Rattle.gates.specs.declared.Coding.{Coding}
+use Rattle.gates.specs.Gates.{gateOf, kindOf}
+use Rattle.gates.specs.Counting.{countOf, countsOf, summed, totalOf}
+use Rattle.gates.proofs.Gates.{kind-lt}
+
+count-append : (k : ℕ) (a b : List ℕ) → countOf k (a ++ b) ≡ countOf k a + countOf k b
+unfolding countOf
+count-append k [] b = sym (zero-add (countOf k b))
+count-append k (x ∷ a) b = rw (count-append k a b) (sym (add-assoc (cond (eqb x k) 1 0) (countOf k a) (countOf k b)))
+
+pub counts-append : (a b : List ℕ) → countsOf (a ++ b) ≡ summed (countsOf a) (countsOf b)
+counts-append a b = simp count-append
+
+-- a turn of a loop that counts
+pub counts-turn : (c : Coding) (codes : List ℕ) (i : ℕ) → i < length codes
+    → summed (countsOf (map (kindOf c) (take i codes))) (countsOf (kindOf c (getD codes i 0) ∷ [])) ≡ countsOf (map (kindOf c) (take (i + 1) codes))
+counts-turn c codes i h =
+    let here = take i codes in
+    let next = getD codes i 0 ∷ [] in
+    rw (add-one i, take-suc codes i 0 h, map-append (kindOf c) here next) (sym (counts-append (map (kindOf c) here) (map (kindOf c) next)))
+
+-- a kind is counted once
+once : (k : ℕ) → k < 6 → totalOf (countsOf (k ∷ [])) ≡ 1
+unfolding countOf
+once zero h = refl
+once (suc zero) h = refl
+once (suc (suc zero)) h = refl
+once (suc (suc (suc zero))) h = refl
+once (suc (suc (suc (suc zero)))) h = refl
+once (suc (suc (suc (suc (suc zero))))) h = refl
+once (suc (suc (suc (suc (suc (suc n)))))) h = absurd (omega arith)
+
+-- every gate is counted once: the six counts add up to the number of codes
+pub counts-all : (c : Coding) (codes : List ℕ) → totalOf (countsOf (map (kindOf c) codes)) ≡ length codes
+unfolding countOf
+counts-all c [] = refl
+counts-all c (x ∷ codes) = omega (arith, counts-all c codes, once (kindOf c x) (kind-lt (gateOf c x)))

@@ -1,0 +1,8 @@
+pub mod Signs
+pub mod Gates
+pub mod Nearest
+pub mod Tellings
+pub mod Codes
+pub mod Rows
+pub mod Counting
+pub mod Numbers

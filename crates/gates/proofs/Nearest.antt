@@ -1,0 +1,52 @@
+-- The hundredths are rounded right: to nearest, halves away from zero. Assumes nothing.
+use mathlib.Core.Path.{_≡_, refl, sym, ap, _∙_}
+use Prim.Native.Nat.{ℕ, zero, suc, _+_, _*_, _/_, _%_, _≤_, _<_}
+use native.Mathlib.Nat.{mod-add-div', mod-lt, suc-mul, div-eq-of-lt-le}
+use native.Mathlib.Numerals.{add-one}
+use native.Mathlib.Omega.{arith}
+use lib.IntN.{ℤ, pos, negsuc, negℤ, natAbs}
+use Rattle.gates.specs.declared.Coding.{Coding}
+use Rattle.gates.specs.Gates.{differenceOf, magnitudeOf, roundedOf, hundredthsOf}
+
+-- n, with the sign of d
+abbrev pub like : ℤ → ℕ → ℤ
+like (pos d) n = pos n
+like (negsuc d) n = negℤ (pos n)
+
+-- h is 100 * d / scale, to nearest, halves away from zero: it has the sign of d, and the size of 100 * d / scale is at least
+-- that of h less a half, and under that of h and a half (each side taken 2 * scale times)
+pub record Nearest (d : ℤ) (scale : ℕ) (h : ℤ) : Type 0 where
+  pub sign : h ≡ like d (natAbs h)
+  pub at-least : natAbs h * (2 * scale) ≤ 200 * natAbs d + scale
+  pub under : 200 * natAbs d < natAbs h * (2 * scale) + scale
+
+-- there is one such number
+nearest-size : {d : ℤ} {scale : ℕ} {h : ℤ} → Nearest d scale h → (200 * natAbs d + scale) / (2 * scale) ≡ natAbs h
+nearest-size {d} {scale} {h} p =
+    div-eq-of-lt-le (2 * scale) (p .at-least) (rw (add-one (natAbs h), suc-mul (natAbs h) (2 * scale)) (omega arith))
+
+pub nearest-one : {d : ℤ} {scale : ℕ} {h h′ : ℤ} → Nearest d scale h → Nearest d scale h′ → h ≡ h′
+nearest-one {d} p q = p .sign ∙ ap (like d) (sym (nearest-size p) ∙ nearest-size q) ∙ sym (q .sign)
+
+near : (n scale : ℕ) → 0 < scale → (magnitudeOf n scale * (2 * scale) ≤ 200 * n + scale) × (200 * n < magnitudeOf n scale * (2 * scale) + scale)
+unfolding magnitudeOf
+near n scale h =
+    let e = mod-add-div' (200 * n + scale) (2 * scale) in
+    let r : (200 * n + scale) % (2 * scale) < 2 * scale = mod-lt (200 * n + scale) (omega arith) in
+    (omega arith, omega arith)
+
+size-neg : (n : ℕ) → natAbs (negℤ (pos n)) ≡ n
+size-neg zero = refl
+size-neg (suc n) = refl
+
+rounded-near : (d : ℤ) (scale : ℕ) → 0 < scale → Nearest d scale (roundedOf d scale)
+unfolding roundedOf
+rounded-near (pos n) scale h = let b = near n scale h in record { sign = refl; at-least = b .0; under = b .1 }
+rounded-near (negsuc n) scale h =
+    let b = near (suc n) scale h in
+    let e = size-neg (magnitudeOf (suc n) scale) in
+    record { sign = rw e; at-least = rw e (b .0); under = rw e (b .1) }
+
+-- the hundredths of any code, under a scale that a header may have
+pub hundredths-near : (c : Coding) (code : ℕ) → 0 < c .scale → Nearest (differenceOf c code) (c .scale) (hundredthsOf c code)
+hundredths-near c code h = rounded-near (differenceOf c code) (c .scale) h

@@ -1,0 +1,86 @@
+-- Laws of specs/Rows: two lent buffers that a loop fills from their fronts, for both loops; and what a row answers. Assumes
+-- nothing.
+use mathlib.Core.Path.{_≡_, refl, sym, ap, _∙_}
+use mathlib.Core.Bool.{true, false}
+use mathlib.Core.List.{List, [], _∷_, _++_, map}
+use Prim.Native.Nat.{ℕ, suc, _+_, _≤_, _<_}
+use native.Mathlib.Numerals.{add-one}
+use native.Mathlib.Omega.{arith}
+use lib.IntN.{ℤ}
+use lib.ListN.{length, getD, set, take, drop, length-set, length-map, List·getD-map}
+use lib.Seq.{drop-cons, take-suc, take-length, length-take-le, set-at, append-snoc}
+use borrow.Author.Tests.{le-leb, lt-leb}
+use Rattle.gates.specs.declared.Coding.{Coding}
+use Rattle.gates.specs.declared.RowAnswer.{RowAnswer}
+use Rattle.gates.specs.declared.RowAnswer.the-variants.{Filled, Refused}
+use Rattle.gates.specs.Gates.{kindOf}
+use Rattle.gates.specs.Rows.{shownOf, rooms, filled, Rowed}
+use Rattle.gates.proofs.Tellings.{told-row-one}
+
+-- `here` is `old` with its first i places filled by f of the codes
+pub record Partly {A : Type 0} (f : ℕ → A) (codes : List ℕ) (old : List A) (i : ℕ) (here : List A) : Type 0 where
+  pub is : here ≡ take i (map f codes) ++ drop i old
+  pub long : length here ≡ length old
+
+module _ {A : Type 0} (f : ℕ → A) (codes : List ℕ) (old : List A) where
+  fill-none : Partly f codes old 0 old
+  fill-none = record { is = refl; long = refl }
+
+  fill-turn : (i : ℕ) (here : List A) (v : A) → Partly f codes old i here → i < length codes → i < length old → v ≡ f (getD codes i 0)
+      → Partly f codes old (i + 1) (set here i v)
+  fill-turn i here v p hc ho e =
+      let head = take i (map f codes) in
+      let x = f (getD codes i 0) in
+      let ln = length-map codes f in
+      let lh : length head ≡ i = length-take-le i (map f codes) (omega arith) in
+      let last : take (suc i) (map f codes) ≡ head ++ (x ∷ []) =
+      take-suc (map f codes) i (f 0) (omega arith) ∙ ap (λ (y : A). head ++ (y ∷ [])) (List·getD-map f codes i 0) in
+      record {
+        is = rw (p .is, e, add-one i, drop-cons old i x ho, last)
+            (set-at head (getD old i x) (drop (suc i) old) x i lh ∙ sym (append-snoc head x (drop (suc i) old)));
+        long = length-set here i v ∙ p .long;
+      }
+
+  fill-all : (i : ℕ) (here : List A) → Partly f codes old i here → i ≡ length codes → here ≡ filled (map f codes) old
+  fill-all i here p e = p .is ∙ rw (e, ← length-map codes f, take-length)
+
+-- both buffers of a row after i gates
+pub record Begun (c : Coding) (codes k : List ℕ) (h : List ℤ) (i : ℕ) (k′ : List ℕ) (h′ : List ℤ) : Type 0 where
+  pub kinds : Partly (kindOf c) codes k i k′
+  pub hundredths : Partly (shownOf c) codes h i h′
+
+module _ (c : Coding) (codes k : List ℕ) (h : List ℤ) where
+  pub begun-none : Begun c codes k h 0 k h
+  begun-none = record { kinds = fill-none (kindOf c) codes k; hundredths = fill-none (shownOf c) codes h }
+
+  pub begun-turn : {i : ℕ} {k′ : List ℕ} {h′ : List ℤ} (v : ℕ) (w : ℤ) → Begun c codes k h i k′ h′ → i < length codes → i < length k → i < length h
+      → v ≡ kindOf c (getD codes i 0) → w ≡ shownOf c (getD codes i 0) → Begun c codes k h (i + 1) (set k′ i v) (set h′ i w)
+  begun-turn {i} {k′} {h′} v w b hc hk hh ev ew = record {
+    kinds = fill-turn (kindOf c) codes k i k′ v (b .kinds) hc hk ev;
+    hundredths = fill-turn (shownOf c) codes h i h′ w (b .hundredths) hc hh ew;
+  }
+
+  pub begun-all : {i : ℕ} {k′ : List ℕ} {h′ : List ℤ} → Begun c codes k h i k′ h′ → i ≡ length codes → length codes ≤ length k → length codes ≤ length h
+      → Rowed c codes k h (Filled i) k′ h′
+  begun-all {i} {k′} {h′} b e lk lh =
+      let r : rooms codes k h ≡ true = rw (le-leb (length codes) (length k) lk, le-leb (length codes) (length h) lh) in
+      record {
+        answer = rw (r, e);
+        kinds = rw r (fill-all (kindOf c) codes k i k′ (b .kinds) e);
+        hundredths = rw r (fill-all (shownOf c) codes h i h′ (b .hundredths) e);
+      }
+
+  -- no room in a buffer: both are as they were
+  refused : rooms codes k h ≡ false → Rowed c codes k h (Refused 33) k h
+  refused e = record { answer = rw e; kinds = rw e; hundredths = rw e }
+
+  pub short-kinds : length k < length codes → Rowed c codes k h (Refused 33) k h
+  short-kinds l = refused (rw (lt-leb (length codes) (length k) l))
+
+  pub short-hundredths : length codes ≤ length k → length h < length codes → Rowed c codes k h (Refused 33) k h
+  short-hundredths m l = refused (rw (le-leb (length codes) (length k) m, lt-leb (length codes) (length h) l))
+
+-- two results that are allowed for one input are one
+pub row-one : {c : Coding} {codes k k′ k″ : List ℕ} {h h′ h″ : List ℤ} {r s : RowAnswer} → Rowed c codes k h r k′ h′ → Rowed c codes k h s k″ h″
+    → (r ≡ s) × (k′ ≡ k″) × (h′ ≡ h″)
+row-one {r = r} {s = s} p q = (told-row-one r s (p .answer ∙ sym (q .answer)), p .kinds ∙ sym (q .kinds), p .hundredths ∙ sym (q .hundredths))

@@ -1,0 +1,50 @@
+-- Each telling of an answer is one-to-one: the answer can be found again from it, so two answers that are told alike are
+-- one. Assumes nothing.
+use mathlib.Core.Path.{_≡_, refl, sym, ap, _∙_}
+use mathlib.Core.List.{List, [], _∷_}
+use Prim.Native.Nat.{ℕ}
+use lib.ListN.{getD}
+use lib.Ieee.{Float}
+use Rattle.gates.specs.declared.Gate.{Gate}
+use Rattle.gates.specs.declared.Gate.the-variants.{BelowThreshold, RangeFolded, NotScanned, Unknown, Reserved, Value}
+use Rattle.gates.specs.declared.RowAnswer.{RowAnswer}
+use Rattle.gates.specs.declared.RowAnswer.the-variants.{Filled, Refused}
+use Rattle.gates.specs.Gates.{toldGate}
+use Rattle.gates.specs.Rows.{toldRow}
+
+pub one-to-one : {A B : Type 0} (told : A → B) (found : B → A) → ((a : A) → found (told a) ≡ a) → (a b : A) → told a ≡ told b → a ≡ b
+one-to-one told found back a b e = sym (back a) ∙ ap found e ∙ back b
+
+gateFound : ℕ × List Float → Gate
+gateFound t = go (t .1)
+  where
+    go : List Float → Gate
+    go [] = getD (BelowThreshold ∷ RangeFolded ∷ NotScanned ∷ Unknown ∷ []) (t .0) Reserved
+    go (x ∷ xs) = Value x
+
+gate-back : (g : Gate) → gateFound (toldGate g) ≡ g
+unfolding gateFound
+gate-back BelowThreshold = refl
+gate-back RangeFolded = refl
+gate-back NotScanned = refl
+gate-back Unknown = refl
+gate-back Reserved = refl
+gate-back (Value x) = refl
+
+pub told-gate-one : (g h : Gate) → toldGate g ≡ toldGate h → g ≡ h
+told-gate-one = one-to-one toldGate gateFound gate-back
+
+rowFound : ℕ × List ℕ → RowAnswer
+rowFound t = go (t .1)
+  where
+    go : List ℕ → RowAnswer
+    go [] = Refused (t .0)
+    go (n ∷ xs) = Filled n
+
+row-back : (r : RowAnswer) → rowFound (toldRow r) ≡ r
+unfolding rowFound
+row-back (Filled n) = refl
+row-back (Refused number) = refl
+
+pub told-row-one : (r s : RowAnswer) → toldRow r ≡ toldRow s → r ≡ s
+told-row-one = one-to-one toldRow rowFound row-back

@@ -1,0 +1,15 @@
+-- The codes of a moment's data (document 01, "What reading tells": "A moment has length over bin length gates").
+use Prim.Native.Nat.{ℕ, _/_}
+use mathlib.Core.Bool.{cond}
+use mathlib.Core.List.{List}
+use lib.Dec.{eqb}
+use lib.ListN.{length}
+use Rattle.le.specs.Le.{le, items}
+
+-- a code's bytes: 1 or 2 in an accepted header (refusal 23); any other bin length counts as 2
+abbrev pub widthOf : ℕ → ℕ
+widthOf bin = cond (eqb bin 1) 1 2
+
+-- "All numbers are little-endian": the low byte first; a last single byte of two-byte bins is no code
+unfoldable pub codesOf : ℕ → List ℕ → List ℕ
+codesOf bin bytes = items (le (widthOf bin)) (widthOf bin) (length bytes / widthOf bin) bytes 0

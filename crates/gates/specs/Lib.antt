@@ -1,0 +1,5 @@
+pub mod Gates
+pub mod Codes
+pub mod Rows
+pub mod Counting
+pub mod Numbers

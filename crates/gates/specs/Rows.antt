@@ -1,0 +1,40 @@
+-- A row of gates in two lent buffers (document 01, "A row fills two lent buffers").
+use mathlib.Core.Path.{_≡_}
+use mathlib.Core.Bool.{Bool, cond, _&&_}
+use mathlib.Core.List.{List, [], _∷_, _++_, map}
+use Prim.Native.Nat.{ℕ, _<_}
+use lib.Dec.{leb}
+use lib.IntN.{ℤ, pos}
+use lib.ListN.{length, getD, drop}
+use Rattle.gates.specs.Gates.{kindOf, toldOf}
+use Rattle.gates.specs.declared.Coding.{Coding}
+use Rattle.gates.specs.declared.RowAnswer.{RowAnswer}
+use Rattle.gates.specs.declared.RowAnswer.the-variants.{Filled, Refused}
+
+-- the refusal's number, or 0 and "the number of gates"
+abbrev pub toldRow : RowAnswer → ℕ × List ℕ
+toldRow (Filled n) = (0, n ∷ [])
+toldRow (Refused number) = (number, [])
+
+-- "its hundredths (0 where there is no value)"
+abbrev pub shownOf : Coding → ℕ → ℤ
+shownOf c code = toldOf c code .hundredths
+
+-- the hundredths of each one-byte code, in the codes' order
+pub record Tabled (c : Coding) (t : List ℤ) : Type 0 where
+  pub long : length t ≡ 256
+  pub entry : (code : ℕ) → code < 256 → getD t code (pos 0) ≡ shownOf c code
+
+-- whether neither buffer is "too short"
+abbrev pub rooms : List ℕ → List ℕ → List ℤ → Bool
+rooms codes k h = leb (length codes) (length k) && leb (length codes) (length h)
+
+-- a lent room filled from its front: "places past what is filled keep their contents"
+abbrev pub filled : {A : Type 0} → List A → List A → List A
+filled new old = new ++ drop (length new) old
+
+-- the answer, and the buffers after: filled, or as they were where either is too short
+pub record Rowed (c : Coding) (codes : List ℕ) (k : List ℕ) (h : List ℤ) (r : RowAnswer) (k′ : List ℕ) (h′ : List ℤ) : Type 0 where
+  pub answer : toldRow r ≡ cond (rooms codes k h) (0, length codes ∷ []) (33, [])
+  pub kinds : k′ ≡ cond (rooms codes k h) (filled (map (kindOf c) codes) k) k
+  pub hundredths : h′ ≡ cond (rooms codes k h) (filled (map (shownOf c) codes) h) h

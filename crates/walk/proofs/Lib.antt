@@ -1,0 +1,6 @@
+pub mod Counts
+pub mod Growing
+pub mod Grown
+pub mod Loops
+pub mod Masks
+pub mod Run

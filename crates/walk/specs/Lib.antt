@@ -1,0 +1,5 @@
+pub mod Due
+pub mod After
+pub mod Step
+pub mod Reading
+pub mod Growth
