@@ -140,6 +140,10 @@ part-past n a b k = part-same n (a ++ b) b (length a + k) k (λ i h. let e : len
 pub part-in : (n : ℕ) (a b : List ℕ) (at : ℕ) → at + n ≤ length a → part n (a ++ b) at ≡ part n a at
 part-in n a b at h = part-same n (a ++ b) a at at (λ i k. List·getD-append a b 0 (at + i) (omega arith))
 
+-- a part within what was kept of a list
+pub part-take : (n : ℕ) (f : List ℕ) (at m : ℕ) → at + n ≤ m → part n (take m f) at ≡ part n f at
+part-take n f at m h = part-same n (take m f) f at at (λ i k. getD-take m f (at + i) 0 (omega arith))
+
 -- a part, and a number, of a part
 pub part-part : (m n : ℕ) (f : List ℕ) (at k : ℕ) → k + m ≤ n → part m (part n f at) k ≡ part m f (at + k)
 part-part m n f at k h = part-same m (part n f at) f k (at + k) (λ i j. let e : at + k + i ≡ at + (k + i) = omega arith in rw e (part-at n f at (k + i) (omega arith)))

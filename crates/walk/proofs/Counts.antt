@@ -37,7 +37,7 @@ Steady due.Moment w = w .present .sequence ≡ suc (w .count .whole)
 Steady due.Data w = w .present .sequence ≡ suc (w .count .whole)
 Steady due.Nothing w = Unit {0}
 
-settle-fine : (v : Check) (at : ℕ) (n m : Walk) → settle v at n ≡ Took m → v ≡ Fine
+pub settle-fine : (v : Check) (at : ℕ) (n m : Walk) → settle v at n ≡ Took m → v ≡ Fine
 unfolding settle
 settle-fine Fine at n m e = refl
 settle-fine (Broken a b) at n m e = cc

@@ -3,4 +3,5 @@ pub mod Growing
 pub mod Grown
 pub mod Loops
 pub mod Masks
+pub mod Radials
 pub mod Run

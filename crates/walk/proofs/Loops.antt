@@ -48,6 +48,7 @@ pub record Further (f : List ℕ) (w : Walk) (s : Stretch) (n : Walk) : Type 0 w
   pub within : n .at ≤ length f
   pub less : left f n < left f w
   pub end : s .end ≡ n .at
+  pub stop : last (fuel f) f w ≡ last (fuel f) f n
 
 whole-fst : (a b : Stretch) (m n : Walk) → Whole a m ≡ Whole b n → a ≡ b
 whole-fst a b m n e = cc
@@ -68,7 +69,7 @@ further-at (suc k) f w s n h e = go (goes f w) (λ m. further-at k f m s n)
             let t = taken f w m q .less in
             let x = r m (omega arith) (sym (run-took (λ v. Stopped v) onTo k f w m q ∙ ap (λ (t : Bool). advanceIf t w m (walkOn (λ v. Stopped v) onTo k f m)) p) ∙ e) in
             let l = x .less in
-            record { more = trace-step f w m false q p ∙ x .more; within = x .within; less = omega arith; end = x .end }
+            record { more = trace-step f w m false q p ∙ x .more; within = x .within; less = omega arith; end = x .end; stop = run-step (λ v. v) (λ v n r. r) (fuel f) f w m (enough f w) q ∙ x .stop }
         by true p =
             let y = sym (run-took (λ v. Stopped v) onTo k f w m q ∙ ap (λ (t : Bool). advanceIf t w m (walkOn (λ v. Stopped v) onTo k f m)) p) ∙ e in
             let a = whole-fst (stretch w m) s m n y in
@@ -78,6 +79,7 @@ further-at (suc k) f w s n h e = go (goes f w) (λ m. further-at k f m s n)
               within = rw (← b) (taken f w m q .within);
               less = rw (← b) (taken f w m q .less);
               end = ap (λ (x : Stretch). x .end) (sym a) ∙ ap (λ (x : Walk). x .at) b;
+              stop = run-step (λ v. v) (λ v n r. r) (fuel f) f w m (enough f w) q ∙ ap (last (fuel f) f) b;
             }
     go (off h) r = let z = run-stays (λ v. Stopped v) onTo (suc k) f w h in absurd (let y : _≡_ {A = ℕ} 0 1 = cc in omega arith)
 
@@ -103,6 +105,28 @@ no-more-at (suc k) f w v h e = go (goes f w) (λ m. no-more-at k f m v)
 
 pub no-more : (f : List ℕ) (w v : Walk) → advanceOf f w ≡ Stopped v → trace (fuel f) f w ≡ []
 no-more f w v e = no-more-at (fuel f) f w v (enough f w) e
+
+-- where a loop over advance ends, the reading stops; and what stops it from a whole radial on stops it from before
+stopped-at : (k : ℕ) (f : List ℕ) (w v : Walk) → left f w < k → walkOn (λ v. Stopped v) onTo k f w ≡ Stopped v → last (fuel f) f w ≡ v
+unfolding advanceIf
+stopped-at zero f w v h e = absurd (omega arith)
+stopped-at (suc k) f w v h e = go (goes f w) (λ m. stopped-at k f m v)
+  where
+    go : Goes f w → ((m : Walk) → left f m < k → walkOn (λ v. Stopped v) onTo k f m ≡ Stopped v → last (fuel f) f m ≡ v) → last (fuel f) f w ≡ v
+    go (on m q) r = by (endsRadial (w .due) (w .rest .todo)) refl
+      where
+        by : (b : Bool) → endsRadial (w .due) (w .rest .todo) ≡ b → last (fuel f) f w ≡ v
+        by false p =
+            let t = taken f w m q .less in
+            run-step (λ v. v) (λ v n r. r) (fuel f) f w m (enough f w) q
+            ∙ r m (omega arith) (sym (run-took (λ v. Stopped v) onTo k f w m q ∙ ap (λ (t : Bool). advanceIf t w m (walkOn (λ v. Stopped v) onTo k f m)) p) ∙ e)
+        by true p =
+            let y = sym (run-took (λ v. Stopped v) onTo k f w m q ∙ ap (λ (t : Bool). advanceIf t w m (walkOn (λ v. Stopped v) onTo k f m)) p) ∙ e in
+            absurd (let z : _≡_ {A = ℕ} 0 1 = cc in omega arith)
+    go (off s) r = let z = run-stays (λ v. Stopped v) onTo (suc k) f w s in run-stays (λ v. v) (λ v n r. r) (fuel f) f w s ∙ cc
+
+pub stopped : (f : List ℕ) (w v : Walk) → advanceOf f w ≡ Stopped v → last (fuel f) f w ≡ v
+stopped f w v e = stopped-at (fuel f) f w v (enough f w) e
 
 -- ---- find: the first of the stretches still to come, a later one, or none
 

@@ -3,3 +3,4 @@ pub mod After
 pub mod Step
 pub mod Reading
 pub mod Growth
+pub mod Tiling

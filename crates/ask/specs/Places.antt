@@ -1,0 +1,25 @@
+-- Where an asked radial and moment stand (document 01, "What reading tells").
+use mathlib.Core.List.{List}
+use Prim.Native.Nat.{ℕ}
+use Rattle.walk.specs.declared.reading.Stretch.{Stretch}
+use Rattle.walk.specs.declared.reading.Found.{Found}
+use Rattle.walk.specs.declared.reading.Found.the-variants as found
+use Rattle.walk.specs.Growth.{bytesOf}
+use Rattle.walk.specs.Reading.{stretches, nth}
+use Rattle.moments.specs.declared.Found as moment
+use Rattle.moments.specs.Moments.{momentsOf, findIn}
+use Rattle.ask.specs.declared.places.Where.{Where}
+use Rattle.ask.specs.declared.places.Where.the-variants.{At, NoRadial, NoMoment}
+
+-- the moment of a type, in a radial's own stretch of the file
+unfoldable pub inStretch : Stretch → moment.Found → Where
+inStretch s (moment.the-variants.At p) = At s p
+inStretch s moment.the-variants.Nowhere = NoMoment
+
+unfoldable pub inFound : List ℕ → Found → ℕ → Where
+inFound f found.Nowhere t = NoRadial
+inFound f (found.There s) t = inStretch s (findIn (bytesOf f s) t (momentsOf (bytesOf f s)))
+
+-- the moment of type t in the whole radial with a sequence number
+abbrev pub whereIs : List ℕ → ℕ → ℕ → Where
+whereIs f n t = inFound f (nth (stretches f) n) t

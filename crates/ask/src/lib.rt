@@ -1,0 +1,2 @@
+// Questions on a volume: a radial, a moment, a gate, a row, a tally. Each is answered on whole radials, whatever the verdict.
+pub mod places;

@@ -1,0 +1,52 @@
+// Where an asked radial and moment stand.
+ghost use mathlib.Core.Path.{_≡_};
+ghost use Rattle.walk.specs.Growth.{bytesOf};
+ghost use Rattle.moments.specs.Moments.{momentsOf, findIn};
+ghost use Rattle.ask.specs.Places.{whereIs, inStretch};
+use walk::reading;
+use walk::reading::Found;
+use walk::reading::Stretch;
+
+pub enum Where {
+    // The radial's stretch, and the place of the moment's header in it.
+    At(Stretch, usize),
+    NoRadial,
+    NoMoment,
+}
+
+// A radial's own stretch of the file. A stretch that does not lie in the file gives what the file has of it.
+pub fn own(file: &[u8], s: Stretch) -> &[u8]
+    ensures { λ r. ⌜ now r ≡ bytesOf (now (file .entry)) s ⌝ }
+{
+    let start = s.start;
+    let end = s.end;
+    if end <= start {
+        return &file[..0];
+    }
+    if file.len() <= start {
+        return &file[..0];
+    }
+    if file.len() < end {
+        return &file[start..];
+    }
+    &file[start..end]
+}
+
+// The moment of a type in a radial's own stretch.
+fn in_stretch(b: &[u8], s: Stretch, t: u32) -> Where
+    ensures { λ r. ⌜ r ≡ inStretch s (findIn (now (b .entry)) t (momentsOf (now (b .entry)))) ⌝ }
+{
+    match moments::find(b, t) {
+        moments::Found::At(p) => Where::At(s, p),
+        moments::Found::Nowhere => Where::NoMoment,
+    }
+}
+
+pub fn find(file: &[u8], sequence: usize, t: u32) -> Where
+    ensures { λ r. ⌜ r ≡ whereIs (now (file .entry)) sequence t ⌝ }
+{
+    match reading::find(file, sequence) {
+        Found::There(s) => in_stretch(own(file, s), s, t),
+        Found::Nowhere => Where::NoRadial,
+    }
+}

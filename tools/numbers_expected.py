@@ -1,0 +1,76 @@
+#!/usr/bin/env python3
+"""What the program `numbers` prints: document 01's numbers that are run.
+
+    python3 tools/numbers_expected.py > crates/numbers/stdout
+
+A line for each file: a label, the verdict, the bytes read and the whole radials.
+"""
+import sys
+
+sys.dont_write_bytecode = True
+import reference as ref
+import volumes
+
+
+def told(r):
+    return 'complete' if r.verdict == 'complete' else ' '.join(map(str, r.verdict))
+
+
+def counts(r):
+    return f'{r.bytes_read} {len(r.radials)}'
+
+
+def with_task(**fields):
+    spec = volumes.small_spec()
+    spec['task'].update({name.replace('_', ' '): value for name, value in fields.items()})
+    return volumes.build(spec)
+
+
+def with_first_radial(**fields):
+    spec = volumes.small_spec()
+    spec['cuts'][0]['radials'][0]['fields'].update(fields)
+    return volumes.build(spec)
+
+
+def files():
+    data = volumes.small()
+    wrong = b'\0' + data[1:]
+    yield 'empty', b''
+    yield 'wrong magic, 31 bytes', wrong[:31]
+    yield 'wrong magic, 32 bytes', wrong[:32]
+    for n in (50, 51):
+        yield f'cut number {n}', with_task(cut_number=n)
+    for n in (999999, 1000000):
+        yield f'microseconds {n}', with_first_radial(microseconds=n)
+    yield 'small volume', data
+    yield 'its first 871', data[:871]
+    yield 'one byte added', data + b'\0'
+
+
+def goes_on(a, b):
+    """Whether one byte more reads no more, and wants one byte less."""
+    return (a.verdict[0] == 'open' and b.verdict == ('open', a.verdict[1] - 1)
+            and counts(a) == counts(b))
+
+
+def runs():
+    """Every prefix of the small volume: (first, last) of each run, with what is told there."""
+    data = volumes.small()
+    tells = [ref.read(data[:n]) for n in range(len(data) + 1)]
+    first = 0
+    for n in range(len(tells)):
+        if n == len(data) or not goes_on(tells[n], tells[n + 1]):
+            yield first, n, tells[first], tells[n]
+            first = n + 1
+
+
+def main():
+    for label, data in files():
+        r = ref.read(data)
+        print(f'{label}: {told(r)} {counts(r)}')
+    for first, last, r, s in runs():
+        print(f'prefixes {first} to {last}: {told(r)} to {told(s)} {counts(s)}')
+
+
+if __name__ == '__main__':
+    main()
