@@ -33,7 +33,7 @@ pub fn own(file: &[u8], s: Stretch) -> &[u8]
 }
 
 // The moment of a type in a radial's own stretch.
-fn in_stretch(b: &[u8], s: Stretch, t: u32) -> Where
+pub fn in_stretch(b: &[u8], s: Stretch, t: u32) -> Where
     ensures { λ r. ⌜ r ≡ inStretch s (findIn (now (b .entry)) t (momentsOf (now (b .entry)))) ⌝ }
 {
     match moments::find(b, t) {

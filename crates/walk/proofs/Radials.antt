@@ -122,16 +122,16 @@ module _ (f : List ℕ) (w m : Walk) (s : Stretch) (later : Before (m .due) f m 
         from = omega arith;
         end = omega arith;
         whole =
-          record {
-            against = radialDue w;
-            cut = i .cut;
-            header = ap (λ (x : Radial). radialCheck x (radialDue w)) (sym same) ∙ g;
-            mask = c .«moments_mask»;
-            sizes = c .«size_mask»;
-            moments =
-              subst (λ (x : Radial). Tiled f (c .«moments_mask») (c .«size_mask») 0 (x .«length_of_data») (x .«moment_number») (s .start + 64) (s .end)) same
-              (subst (λ (a : ℕ). Tiled f (c .«moments_mask») (c .«size_mask») 0 (r .«length_of_data») (r .«moment_number») (a + 64) (s .end)) (sym st) (i .rest));
-          };
+            record {
+              against = radialDue w;
+              cut = i .cut;
+              header = ap (λ (x : Radial). radialCheck x (radialDue w)) (sym same) ∙ g;
+              mask = c .«moments_mask»;
+              sizes = c .«size_mask»;
+              moments =
+                  subst (λ (x : Radial). Tiled f (c .«moments_mask») (c .«size_mask») 0 (x .«length_of_data») (x .«moment_number») (s .start + 64) (s .end)) same
+                  (subst (λ (a : ℕ). Tiled f (c .«moments_mask») (c .«size_mask») 0 (r .«length_of_data») (r .«moment_number») (a + 64) (s .end)) (sym st) (i .rest));
+            };
       }
 
   back-moment : takeMoment (momentAt (take (w .at + 32) f) (w .at)) w ≡ Took m → 1 ≤ w .rest .todo → Inside f w s (w .rest .todo) (w .at)

@@ -1,0 +1,78 @@
+-- What is answered of a radial, a moment, a gate and a row (document 01, "What reading tells"): 30 where there is no such
+-- whole radial, then 31 where it has no such moment, then 32 or 33.
+use Prim.Native.Nat.{ℕ, _%_}
+use mathlib.Core.Bool.{cond}
+use mathlib.Core.List.{List, []}
+use mathlib.Core.Path.{_≡_}
+use lib.Dec.{ltb}
+use lib.IntN.{ℤ}
+use lib.ListN.{length, getD}
+use Rattle.blocks.specs.declared.moment.Moment.{Moment}
+use Rattle.blocks.specs.Moment.{momentAt}
+use Rattle.blocks.specs.Radial.{radialAt}
+use Rattle.gates.specs.declared.Coding.{Coding}
+use Rattle.gates.specs.declared.RowAnswer.{RowAnswer}
+use Rattle.gates.specs.Codes.{codesOf}
+use Rattle.gates.specs.Gates.{toldOf}
+use Rattle.gates.specs.Rows.{toldRow, Rowed}
+use Rattle.moments.specs.Moments.{dataAt}
+use Rattle.walk.specs.declared.reading.Found.{Found}
+use Rattle.walk.specs.declared.reading.Found.the-variants as found
+use Rattle.walk.specs.Growth.{bytesOf}
+use Rattle.walk.specs.Reading.{stretches, nth}
+use Rattle.ask.specs.declared.answers.RadialAnswer.{RadialAnswer}
+use Rattle.ask.specs.declared.answers.MomentAnswer.{MomentAnswer}
+use Rattle.ask.specs.declared.answers.GateAnswer.{GateAnswer}
+use Rattle.ask.specs.declared.answers.GateAnswer.the-variants.{Answered, Refused}
+use Rattle.ask.specs.declared.places.Where.{Where}
+use Rattle.ask.specs.declared.places.Where.the-variants.{At, NoRadial, NoMoment}
+use Rattle.ask.specs.Places.{whereIs}
+
+-- a radial: its record and its place; refused, zeros
+unfoldable pub radialTold : List ℕ → Found → RadialAnswer
+radialTold f found.Nowhere = record { number = 30; place = 0; header = radialAt [] 0 }
+radialTold f (found.There s) = record { number = 0; place = s .start; header = radialAt f (s .start) }
+
+abbrev pub radialOfFile : List ℕ → ℕ → RadialAnswer
+radialOfFile f n = radialTold f (nth (stretches f) n)
+
+-- a moment: its header; refused, zeros
+unfoldable pub momentTold : List ℕ → Where → MomentAnswer
+momentTold f NoRadial = record { number = 30; header = momentAt [] 0 }
+momentTold f NoMoment = record { number = 31; header = momentAt [] 0 }
+momentTold f (At s p) = record { number = 0; header = momentAt (bytesOf f s) p }
+
+-- the part of the file that holds a moment's data; refused, it is empty
+unfoldable pub dataTold : List ℕ → Where → List ℕ
+dataTold f NoRadial = []
+dataTold f NoMoment = []
+dataTold f (At s p) = dataAt (bytesOf f s) p
+
+-- what a header says of its codes. An accepted header's scale and offset are at most 32,768, so 16 bits hold them whole
+-- (proved of every whole radial)
+abbrev pub codingOf : Moment → Coding
+codingOf h = record { «data_type» = h .«data_type»; scale = h .scale % 65536; offset = h .offset % 65536 }
+
+-- a gate of a moment, from 0
+unfoldable pub gateIn : Moment → List ℕ → ℕ → GateAnswer
+gateIn h bytes i =
+    cond (ltb i (length (codesOf (h .«bin_length») bytes)))
+    (Answered (toldOf (codingOf h) (getD (codesOf (h .«bin_length») bytes) i 0)))
+    (Refused 32)
+
+unfoldable pub gateTold : List ℕ → Where → ℕ → GateAnswer
+gateTold f NoRadial i = Refused 30
+gateTold f NoMoment i = Refused 31
+gateTold f (At s p) i = gateIn (momentAt (bytesOf f s) p) (dataAt (bytesOf f s) p) i
+
+-- a row: refused, both buffers are as they were
+pub record Unfilled (n : ℕ) (k : List ℕ) (h : List ℤ) (r : RowAnswer) (k′ : List ℕ) (h′ : List ℤ) : Type 0 where
+  pub answer : toldRow r ≡ (n, [])
+  pub kinds : k′ ≡ k
+  pub hundredths : h′ ≡ h
+
+unfoldable pub RowTold : List ℕ → Where → List ℕ → List ℤ → RowAnswer → List ℕ → List ℤ → Type 0
+RowTold f NoRadial k h r k′ h′ = Unfilled 30 k h r k′ h′
+RowTold f NoMoment k h r k′ h′ = Unfilled 31 k h r k′ h′
+RowTold f (At s p) k h r k′ h′ =
+    Rowed (codingOf (momentAt (bytesOf f s) p)) (codesOf (momentAt (bytesOf f s) p .«bin_length») (dataAt (bytesOf f s) p)) k h r k′ h′
