@@ -1,1 +1,3 @@
+pub mod Growing
+pub mod Grown
 pub mod Tallying

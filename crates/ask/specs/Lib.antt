@@ -1,3 +1,4 @@
 pub mod Places
 pub mod Answers
 pub mod Tallies
+pub mod Growth

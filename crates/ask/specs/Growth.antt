@@ -1,0 +1,45 @@
+-- Growth (demand 3, on answers): what is answered of a file A and of any file A ++ C that begins with A.
+use Prim.Native.Nat.{ℕ, _≤_}
+use mathlib.Core.List.{List, _++_}
+use mathlib.Core.Logic.{_⊎_}
+use mathlib.Core.Path.{_≡_}
+use Rattle.walk.specs.declared.reading.Found.the-variants.{There}
+use Rattle.walk.specs.declared.reading.Stretch.{Stretch}
+use Rattle.walk.specs.Reading.{stretches, nth}
+use Rattle.ask.specs.declared.answers.GateAnswer.{GateAnswer}
+use Rattle.ask.specs.declared.answers.GateAnswer.the-variants as gate
+use Rattle.ask.specs.declared.tallies.Tally.{Tally}
+use Rattle.ask.specs.declared.tallies.TallyAnswer.the-variants.{Counted, Refused}
+use Rattle.ask.specs.Answers.{radialOfFile, momentTold, dataTold, gateTold}
+use Rattle.ask.specs.Places.{whereIs}
+use Rattle.ask.specs.Tallies.{tallyAnswer}
+
+abbrev pub gateAsked : List ℕ → ℕ → ℕ → ℕ → GateAnswer
+gateAsked f n t i = gateTold f (whereIs f n t) i
+
+-- no count of a is above that of b
+pub record NoFewer (a b : Tally) : Type 0 where
+  pub radials : a .radials ≤ b .radials
+  pub below : a .counts .below ≤ b .counts .below
+  pub folded : a .counts .folded ≤ b .counts .folded
+  pub «not_scanned» : a .counts .«not_scanned» ≤ b .counts .«not_scanned»
+  pub unknown : a .counts .unknown ≤ b .counts .unknown
+  pub reserved : a .counts .reserved ≤ b .counts .reserved
+  pub value : a .counts .value ≤ b .counts .value
+
+-- what is answered of a radial that is whole in A is answered of the longer file
+pub record Kept (A C : List ℕ) (n : ℕ) : Type 0 where
+  pub radial : radialOfFile (A ++ C) n ≡ radialOfFile A n
+  pub place : (t : ℕ) → whereIs (A ++ C) n t ≡ whereIs A n t
+  pub moment : (t : ℕ) → momentTold (A ++ C) (whereIs (A ++ C) n t) ≡ momentTold A (whereIs A n t)
+  pub bytes : (t : ℕ) → dataTold (A ++ C) (whereIs (A ++ C) n t) ≡ dataTold A (whereIs A n t)
+  pub gate : (t i : ℕ) → gateAsked (A ++ C) n t i ≡ gateAsked A n t i
+
+pub record AnswersGrow (A C : List ℕ) : Type 0 where
+  pub whole : (n : ℕ) (s : Stretch) → nth (stretches A) n ≡ There s → Kept A C n
+  -- a gate's 30 may turn into an answer, 31 or 32; any other answer stays
+  pub gate : (n t i : ℕ) → (gateAsked A n t i ≡ gate.Refused 30) ⊎ (gateAsked (A ++ C) n t i ≡ gateAsked A n t i)
+  -- a tally's 31 stays or turns into a tally, and no count of a tally falls
+  pub uncounted : (cut t : ℕ) → tallyAnswer A cut t ≡ Refused 31
+      → (tallyAnswer (A ++ C) cut t ≡ Refused 31) ⊎ ((b : Tally) × (tallyAnswer (A ++ C) cut t ≡ Counted b))
+  pub counted : (cut t : ℕ) (a : Tally) → tallyAnswer A cut t ≡ Counted a → (b : Tally) × ((tallyAnswer (A ++ C) cut t ≡ Counted b) × NoFewer a b)

@@ -1,0 +1,231 @@
+// Runs the numbers of document 01 that are run ("Numbers to try"): for each file, a line of what reading tells, its
+// verdict, the bytes read and the whole radials.
+ghost use Prim.Native.Nat.{_≤_};
+use libc::STDOUT_FILENO;
+use walk::reading;
+use walk::reading::Reading;
+use walk::reading::Verdict;
+
+// The blocks before the radials of the small volume. Here and below, a byte that no rule asks for is 0.
+fn front_byte(at: usize) -> u8 {
+    match at {
+        // generic header at 0: magic, generic type
+        0 => 0x52,
+        1 => 0x53,
+        2 => 0x54,
+        3 => 0x4d,
+        8 => 1,
+        // task at 160: polarization, cut number
+        320 => 1,
+        336 => 1,
+        // cut at 416: process mode, unfold mode, both resolutions, phase mode, moments mask
+        416 => 1,
+        432 => 1,
+        460 => 250,
+        464 => 250,
+        488 => 1,
+        500 => 2,
+        _ => 0,
+    }
+}
+
+// A radial of the small volume, with its moment and four gates.
+fn radial_byte(at: usize, state: u8, sequence: u8) -> u8 {
+    match at {
+        0 => state,
+        8 => sequence,
+        // radial number, which is the sequence number in a volume of one cut; elevation number
+        12 => sequence,
+        16 => 1,
+        // length of data, moment number
+        36 => 36,
+        40 => 1,
+        // the moment's type, scale, offset, bin length, length
+        64 => 2,
+        68 => 2,
+        72 => 66,
+        76 => 1,
+        80 => 4,
+        _ => 0,
+    }
+}
+
+fn small_byte(at: usize) -> u8 {
+    match at {
+        0..=671 => front_byte(at),
+        672..=771 => radial_byte(at - 672, 3, 1),
+        772..=871 => radial_byte(at - 772, 4, 2),
+        _ => 0,
+    }
+}
+
+fn fill(room: &mut [u8]) {
+    let mut i = 0;
+    while i < room.len() {
+        room[i] = small_byte(i);
+        i += 1;
+    }
+}
+
+// The small volume, and one byte more.
+fn small() -> [u8; 873] {
+    let mut v = [0u8; 873];
+    fill(&mut v);
+    v
+}
+
+fn word(text: &[u8]) {
+    io::write_all(STDOUT_FILENO, text);
+}
+
+fn number(n: u64) {
+    word(b" ");
+    io::print_decimal(STDOUT_FILENO, n);
+}
+
+fn print_verdict(v: Verdict) {
+    match v {
+        Verdict::Complete => {
+            word(b" complete");
+        }
+        Verdict::Open(missing) => {
+            word(b" open");
+            number(missing as u64);
+        }
+        Verdict::Refused(n, place) => {
+            word(b" refused");
+            number(n as u64);
+            number(place as u64);
+        }
+    }
+}
+
+fn print_counts(r: Reading) {
+    number(r.read as u64);
+    number(r.radials as u64);
+    word(b"\n");
+}
+
+// What reading tells of the first n bytes, or of all where there are fewer.
+fn read_first(file: &[u8], n: usize) -> Reading {
+    if n <= file.len() {
+        return reading::read(&file[0..n]);
+    }
+    reading::read(file)
+}
+
+fn tell(label: &[u8], volume: &[u8; 873], n: usize) {
+    let r = read_first(volume, n);
+    word(label);
+    let v = r.verdict;
+    print_verdict(v);
+    print_counts(r);
+}
+
+fn wrong_magic() {
+    let mut v = small();
+    v[0] = 0;
+    tell(b"empty:", &v, 0);
+    tell(b"wrong magic, 31 bytes:", &v, 31);
+    tell(b"wrong magic, 32 bytes:", &v, 32);
+}
+
+fn cut_numbers() {
+    let mut v = small();
+    v[336] = 50;
+    tell(b"cut number 50:", &v, 872);
+    v[336] = 51;
+    tell(b"cut number 51:", &v, 872);
+}
+
+fn microseconds() {
+    let mut v = small();
+    v[704] = 0x3f;
+    v[705] = 0x42;
+    v[706] = 0x0f;
+    tell(b"microseconds 999999:", &v, 872);
+    v[704] = 0x40;
+    tell(b"microseconds 1000000:", &v, 872);
+}
+
+fn lengths() {
+    let v = small();
+    tell(b"small volume:", &v, 872);
+    tell(b"its first 871:", &v, 871);
+    tell(b"one byte added:", &v, 873);
+}
+
+// Whether one byte more reads no more, and wants one byte less.
+fn goes_on(a: Reading, b: Reading) -> bool {
+    if a.read != b.read {
+        return false;
+    }
+    if a.radials != b.radials {
+        return false;
+    }
+    let v = a.verdict;
+    let w = b.verdict;
+    let Verdict::Open(m) = v else {
+        return false;
+    };
+    let Verdict::Open(n) = w else {
+        return false;
+    };
+    if m == 0 {
+        return false;
+    }
+    m - 1 == n
+}
+
+// The last length of the run of prefixes that starts with one, among those of at most 872 bytes.
+fn run_end(file: &[u8], first: usize) -> usize
+    requires { ⌜ first ≤ 872 ⌝ }
+    ensures { λ r. ⌜ (first ≤ r) × (r ≤ 872) ⌝ }
+{
+    let mut last = first;
+    let mut r = read_first(file, first);
+    while last < 872 {
+        let next = read_first(file, last + 1);
+        if !goes_on(r, next) {
+            return last;
+        }
+        r = next;
+        last += 1;
+    }
+    last
+}
+
+fn print_run(file: &[u8], first: usize, last: usize) {
+    let r = read_first(file, first);
+    let s = read_first(file, last);
+    let v = r.verdict;
+    let w = s.verdict;
+    word(b"prefixes");
+    number(first as u64);
+    word(b" to");
+    number(last as u64);
+    word(b":");
+    print_verdict(v);
+    word(b" to");
+    print_verdict(w);
+    print_counts(s);
+}
+
+// Every prefix of the small volume, by runs of lengths at which the same is read and each byte more wants one less.
+fn prefixes(file: &[u8]) {
+    let mut first = 0;
+    while first <= 872 {
+        let last = run_end(file, first);
+        print_run(file, first, last);
+        first = last + 1;
+    }
+}
+
+fn main() {
+    wrong_magic();
+    cut_numbers();
+    microseconds();
+    lengths();
+    let v = small();
+    prefixes(&v);
+}
