@@ -1,0 +1,19 @@
+-- What stands behind an answered moment: its header kept its rules, so 16 bits hold its scale and offset, and its data are
+-- all there (document 01, numbers 21 to 24 and "Tiling").
+use Prim.Native.Nat.{ℕ, _≤_}
+use mathlib.Core.List.{List}
+use mathlib.Core.Logic.{_⊎_}
+use mathlib.Core.Path.{_≡_}
+use lib.ListN.{length}
+use Rattle.blocks.specs.Moment.{momentAt}
+use Rattle.moments.specs.Moments.{dataAt}
+use Rattle.walk.specs.declared.reading.Stretch.{Stretch}
+use Rattle.walk.specs.Growth.{bytesOf}
+use Rattle.ask.specs.Answers.{codingOf}
+
+pub record Sound (b : List ℕ) (p : ℕ) : Type 0 where
+  pub scale : (1 ≤ momentAt b p .scale) × (momentAt b p .scale ≤ 32768)
+  pub offset : momentAt b p .offset ≤ 32768
+  pub bin : (momentAt b p .«bin_length» ≡ 1) ⊎ (momentAt b p .«bin_length» ≡ 2)
+  pub coding : codingOf (momentAt b p) ≡ record { «data_type» = momentAt b p .«data_type»; scale = momentAt b p .scale; offset = momentAt b p .offset }
+  pub bytes : length (dataAt b p) ≡ momentAt b p .length
