@@ -1,4 +1,4 @@
--- The codes of a moment's data (document 01, "What reading tells": "A moment has length over bin length gates").
+-- The codes of a moment's data (document 01, "What reading tells").
 use Prim.Native.Nat.{ℕ, _/_}
 use mathlib.Core.Bool.{cond}
 use mathlib.Core.List.{List}
@@ -10,6 +10,6 @@ use Rattle.le.specs.Le.{le, items}
 abbrev pub widthOf : ℕ → ℕ
 widthOf bin = cond (eqb bin 1) 1 2
 
--- "All numbers are little-endian": the low byte first; a last single byte of two-byte bins is no code
+-- the codes in order, the low byte first; a last single byte of two-byte bins is no code
 unfoldable pub codesOf : ℕ → List ℕ → List ℕ
 codesOf bin bytes = items (le (widthOf bin)) (widthOf bin) (length bytes / widthOf bin) bytes 0

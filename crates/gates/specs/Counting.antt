@@ -1,4 +1,4 @@
--- The six counts of a tally (document 01, "A tally .. counts .. the six kinds of gate").
+-- The six counts of a tally (document 01, "What reading tells").
 use mathlib.Core.Bool.{cond}
 use mathlib.Core.List.{List, [], _∷_}
 use Prim.Native.Nat.{ℕ, _+_}

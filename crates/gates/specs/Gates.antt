@@ -11,19 +11,19 @@ use Rattle.gates.specs.declared.Gate.{Gate}
 use Rattle.gates.specs.declared.Gate.the-variants.{BelowThreshold, RangeFolded, NotScanned, Unknown, Reserved, Value}
 use Rattle.gates.specs.declared.Told.{Told}
 
--- the fraction's upper number: "code less offset"
+-- the fraction's upper number, the code less the offset
 abbrev pub differenceOf : Coding → ℕ → ℤ
 differenceOf c code = pos code -ℤ pos (c .offset)
 
--- "the single double-precision quotient of code less offset by scale"; by 0, as no accepted header has it, what IEEE 754 says
+-- one division in double precision, of the difference by the scale; by 0, as no accepted header has it, what IEEE 754 says
 unfoldable pub floatOf : Coding → ℕ → Float
 floatOf c code = div binary64 (ofInt binary64 (differenceOf c code)) (ofInt binary64 (pos (c .scale)))
 
--- "below threshold (code 0), range folded (1), not scanned (2), unknown (3), reserved (4), or a value that carries one float"
+-- the five special codes 0 to 4 in their order; any other code is a value with its float
 unfoldable pub gateOf : Coding → ℕ → Gate
 gateOf c code = getD (BelowThreshold ∷ RangeFolded ∷ NotScanned ∷ Unknown ∷ Reserved ∷ []) code (Value (floatOf c code))
 
--- the paper's number and values for each case: "a kind per gate (0 to 4, or 5 for a value)", and the value's float
+-- the number by which a row shows each case, and what it carries: a value its float
 abbrev pub toldGate : Gate → ℕ × List Float
 toldGate BelowThreshold = (0, [])
 toldGate RangeFolded = (1, [])
@@ -36,16 +36,16 @@ toldGate (Value x) = (5, x ∷ [])
 abbrev pub kindOf : Coding → ℕ → ℕ
 kindOf c code = toldGate (gateOf c code) .0
 
--- 100 * n / scale, "rounded to nearest", a half going up; a number over 0 is 0 here, and no accepted header has scale 0
+-- 100 * n / scale to the nearest whole number, a half going up; a number over 0 is 0 here, and no accepted header has scale 0
 unfoldable pub magnitudeOf : ℕ → ℕ → ℕ
 magnitudeOf n scale = (200 * n + scale) / (2 * scale)
 
--- the same of a signed number: "halves away from zero"
+-- the same of a signed number, so that a half goes away from zero on both sides
 unfoldable pub roundedOf : ℤ → ℕ → ℤ
 roundedOf (pos n) scale = pos (magnitudeOf n scale)
 roundedOf (negsuc n) scale = negℤ (pos (magnitudeOf (suc n) scale))
 
--- "the value in hundredths"
+-- a value in hundredths
 abbrev pub hundredthsOf : Coding → ℕ → ℤ
 hundredthsOf c code = roundedOf (differenceOf c code) (c .scale)
 
@@ -53,7 +53,7 @@ hundredthsOf c code = roundedOf (differenceOf c code) (c .scale)
 abbrev pub isValue : Gate → Bool
 isValue g = eqb (toldGate g .0) 5
 
--- "Also given are the exact fraction as two whole numbers .. and the value in hundredths": zeros where the gate is no value
+-- the gate, its fraction as two whole numbers, not reduced, and its hundredths; zeros where the gate is no value
 unfoldable pub toldOf : Coding → ℕ → Told
 toldOf c code = record {
   gate = gateOf c code;

@@ -36,7 +36,7 @@ special g = record { gate = g; difference = pos 0; scale = 0; hundredths = pos 0
 abbrev pub value : Float → ℤ → ℕ → ℤ → Told
 value x n d h = record { gate = Value x; difference = n; scale = d; hundredths = h }
 
--- the table, in the paper's order; its last line but one is "two bytes 05 01 are code 261"
+-- the table, in the order of document 01; the last line but one has the code of two bytes, 05 01
 unfoldable pub table : List Line
 table =
     line 2 66 (0 ∷ []) 0 (special BelowThreshold)

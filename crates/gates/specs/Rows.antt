@@ -1,4 +1,4 @@
--- A row of gates in two lent buffers (document 01, "A row fills two lent buffers").
+-- A row of gates in two lent buffers (document 01, "What reading tells").
 use mathlib.Core.Path.{_≡_}
 use mathlib.Core.Bool.{Bool, cond, _&&_}
 use mathlib.Core.List.{List, [], _∷_, _++_, map}
@@ -11,12 +11,12 @@ use Rattle.gates.specs.declared.Coding.{Coding}
 use Rattle.gates.specs.declared.RowAnswer.{RowAnswer}
 use Rattle.gates.specs.declared.RowAnswer.the-variants.{Filled, Refused}
 
--- the refusal's number, or 0 and "the number of gates"
+-- the refusal's number, or 0 and how many gates were filled in
 abbrev pub toldRow : RowAnswer → ℕ × List ℕ
 toldRow (Filled n) = (0, n ∷ [])
 toldRow (Refused number) = (number, [])
 
--- "its hundredths (0 where there is no value)"
+-- the hundredths of a gate, 0 for one that is no value
 abbrev pub shownOf : Coding → ℕ → ℤ
 shownOf c code = toldOf c code .hundredths
 
@@ -25,11 +25,11 @@ pub record Tabled (c : Coding) (t : List ℤ) : Type 0 where
   pub long : length t ≡ 256
   pub entry : (code : ℕ) → code < 256 → getD t code (pos 0) ≡ shownOf c code
 
--- whether neither buffer is "too short"
+-- whether both buffers have room
 abbrev pub rooms : List ℕ → List ℕ → List ℤ → Bool
 rooms codes k h = leb (length codes) (length k) && leb (length codes) (length h)
 
--- a lent room filled from its front: "places past what is filled keep their contents"
+-- a lent room filled from its front, and as it was past that
 abbrev pub filled : {A : Type 0} → List A → List A → List A
 filled new old = new ++ drop (length new) old
 

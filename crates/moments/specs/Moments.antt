@@ -13,28 +13,28 @@ use Rattle.moments.specs.declared.Ahead.the-variants.{There, End}
 use Rattle.moments.specs.declared.Found.{Found}
 use Rattle.moments.specs.declared.Found.the-variants.{At, Nowhere}
 
--- where the header after the one at `at` stands ("Tiling": a moment takes 32 plus length)
+-- where the header after the one at `at` stands ("Tiling")
 abbrev pub after : List ℕ → ℕ → ℕ
 after b at = at + 32 + momentAt b at .length
 
--- k moments from place `at` on ("Blocks": K times a moment header and its data), up to the first whose header is not all in b
+-- k moments from place `at` on ("Blocks"), up to the first whose header is not all in b
 unfoldable pub momentsFrom : ℕ → List ℕ → ℕ → List ℕ
 momentsFrom zero b at = []
 momentsFrom (suc k) b at = cond (leb (at + 32) (length b)) (at ∷ momentsFrom k b (after b at)) []
 
--- the moments still to come ("Blocks": K times a moment header and its data)
+-- the moments still to come ("Blocks")
 abbrev pub momentsAt : List ℕ → Place → List ℕ
 momentsAt b p = momentsFrom (p .todo) b (p .at)
 
--- all K are to come behind the radial header ("Blocks": 64 bytes, K its moment number)
+-- all K are to come behind the radial header ("Blocks")
 abbrev pub firstOf : List ℕ → Place
 firstOf b = record { todo = radialAt b 0 .«moment_number»; at = 64 }
 
--- the moments of the radial, in file order ("Blocks": a radial is its header, then K times a moment header and its data)
+-- the moments of the radial, in file order ("Blocks")
 abbrev pub momentsOf : List ℕ → List ℕ
 momentsOf b = momentsAt b (firstOf b)
 
--- the next of k moments from place `at` on, and the place to go on from ("Tiling": a moment takes 32 plus length)
+-- the next of k moments from place `at` on, and the place to go on from ("Tiling")
 unfoldable pub aheadFrom : ℕ → List ℕ → ℕ → Ahead
 aheadFrom zero b at = End
 aheadFrom (suc k) b at = cond (leb (at + 32) (length b)) (There at (record { todo = k; at = after b at })) End
@@ -43,7 +43,7 @@ aheadFrom (suc k) b at = cond (leb (at + 32) (length b)) (There at (record { tod
 abbrev pub aheadOf : List ℕ → Place → Ahead
 aheadOf b p = aheadFrom (p .todo) b (p .at)
 
--- the first of some moments that has type t ("What reading tells": a moment (radial, type))
+-- the first of some moments that has type t ("What reading tells")
 unfoldable pub findIn : List ℕ → ℕ → List ℕ → Found
 findIn b t [] = Nowhere
 findIn b t (at ∷ rest) = cond (eqb (momentAt b at .«data_type») t) (At at) (findIn b t rest)

@@ -1,0 +1,17 @@
+-- DEMAND 3: growth never changes what was said.
+-- B is any file longer than A that begins with A: A ++ C, with a byte at least in C.
+use mathlib.Core.List.{List}
+use Prim.Native.Nat.{ℕ, _<_}
+use lib.ListN.{length}
+use Rattle.walk.specs.Growth.{Grows}
+use Rattle.ask.specs.Growth.{AnswersGrow}
+
+pub record Growth (A C : List ℕ) : Type 0 where
+  -- radials and verdicts: the whole radials of A begin those of B, with the same bytes; refused stays refused, complete
+  -- turns into refused 25 where A ended, open wants at least one byte, and what becomes of it with fewer or more
+  pub reading : Grows A C
+  -- answers: each one on a radial whole in A is the same in B; what a gate's 30 and a tally may turn into
+  pub answers : AnswersGrow A C
+
+abbrev pub DemandThree : Type 0
+DemandThree = (A C : List ℕ) → 0 < length C → Growth A C

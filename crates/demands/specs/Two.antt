@@ -1,0 +1,66 @@
+-- DEMAND 2: reading means what the standard says, as document 01 settles it.
+use mathlib.Core.List.{List, [], _∷_}
+use mathlib.Core.Path.{_≡_}
+use Prim.Native.Nat.{ℕ, _<_, _≤_}
+use lib.IntN.{pos}
+use lib.ListN.{length}
+use Rattle.le.specs.Le.{Bytes}
+use Rattle.blocks.specs.declared.check.Check.the-variants.{Fine}
+use Rattle.blocks.specs.Check.{Rule, verdict}
+use Rattle.blocks.proofs.Judged.{Hold}
+use Rattle.blocks.specs.declared.cut.Cut.{Cut}
+use Rattle.blocks.specs.declared.generic.Generic.{Generic}
+use Rattle.blocks.specs.declared.moment.Moment.{Moment}
+use Rattle.blocks.specs.declared.radial.Radial.{Radial}
+use Rattle.blocks.specs.declared.site.Site.{Site}
+use Rattle.blocks.specs.declared.task.Task.{Task}
+use Rattle.blocks.specs.Cut.{cutOf, cutBytes, CutFits}
+use Rattle.blocks.specs.Generic.{genericOf, genericBytes, GenericFits}
+use Rattle.blocks.specs.Moment.{momentOf, momentBytes, MomentFits}
+use Rattle.blocks.specs.Radial.{radialOf, radialBytes, RadialFits}
+use Rattle.blocks.specs.Site.{siteOf, siteBytes, SiteFits}
+use Rattle.blocks.specs.Task.{taskOf, taskBytes, TaskFits}
+use Rattle.gates.specs.declared.Coding.{Coding}
+use Rattle.gates.specs.declared.Gate.the-variants.{Value}
+use Rattle.gates.specs.Gates.{kindOf, toldOf, differenceOf, floatOf, hundredthsOf}
+use Rattle.gates.proofs.Nearest.{Nearest}
+use Rattle.walk.specs.Growth.{bytesOf}
+use Rattle.walk.specs.declared.reading.Stretch.{Stretch}
+use Rattle.walk.specs.Reading.{stretches}
+use Rattle.walk.specs.Tiling.{AllWhole}
+use Rattle.ask.specs.declared.places.Where.the-variants.{At}
+use Rattle.ask.specs.Places.{whereIs}
+use Rattle.ask.specs.Sound.{Sound}
+
+-- a block is refused exactly when one of its rules does not hold: fine exactly when each of them does
+pub record RefusedExactly : Type 0 where
+  pub fine : (rules : List Rule) → verdict rules ≡ Fine → Hold rules
+  pub holds : (rules : List Rule) → Hold rules → verdict rules ≡ Fine
+
+-- what reading accepts as a whole radial is a header that keeps its rules and moments that tile it, each keeping its own
+pub record WholeRadials : Type 0 where
+  pub radials : (f : List ℕ) → AllWhole f (stretches f)
+  pub moments : (f : List ℕ) (n t : ℕ) (s : Stretch) (p : ℕ) → whereIs f n t ≡ At s p → Sound (bytesOf f s) p
+
+-- the five special codes stay five, with nothing but their kind; any other code is exactly (code less offset) over scale
+pub record Codes : Type 0 where
+  pub special : (c : Coding) (code : ℕ) → code < 5 → kindOf c code ≡ code
+  pub bare : (c : Coding) (code : ℕ) → code < 5 → (toldOf c code .difference ≡ pos 0) × ((toldOf c code .scale ≡ 0) × (toldOf c code .hundredths ≡ pos 0))
+  pub value : (c : Coding) (code : ℕ) → 5 ≤ code
+      → toldOf c code ≡ record { gate = Value (floatOf c code); difference = differenceOf c code; scale = c .scale; hundredths = hundredthsOf c code }
+  pub hundredths : (c : Coding) (code : ℕ) → 0 < c .scale → Nearest (differenceOf c code) (c .scale) (hundredthsOf c code)
+
+-- a record written and read again is the same record; a block's bytes read and written again are the same bytes
+pub record Trips : Type 0 where
+  pub generic : (r : Generic) → GenericFits r → genericOf (genericBytes r) ≡ r
+  pub site : (r : Site) → SiteFits r → siteOf (siteBytes r) ≡ r
+  pub task : (r : Task) → TaskFits r → taskOf (taskBytes r) ≡ r
+  pub cut : (r : Cut) → CutFits r → cutOf (cutBytes r) ≡ r
+  pub radial : (r : Radial) → RadialFits r → radialOf (radialBytes r) ≡ r
+  pub moment : (r : Moment) → MomentFits r → momentOf (momentBytes r) ≡ r
+  pub generic-bytes : (b : List ℕ) → Bytes b → length b ≡ 32 → genericBytes (genericOf b) ≡ b
+  pub site-bytes : (b : List ℕ) → Bytes b → length b ≡ 128 → siteBytes (siteOf b) ≡ b
+  pub task-bytes : (b : List ℕ) → Bytes b → length b ≡ 256 → taskBytes (taskOf b) ≡ b
+  pub cut-bytes : (b : List ℕ) → Bytes b → length b ≡ 256 → cutBytes (cutOf b) ≡ b
+  pub radial-bytes : (b : List ℕ) → Bytes b → length b ≡ 64 → radialBytes (radialOf b) ≡ b
+  pub moment-bytes : (b : List ℕ) → Bytes b → length b ≡ 32 → momentBytes (momentOf b) ≡ b
