@@ -3,22 +3,22 @@ use Prim.Native.Nat.{ℕ, zero, suc, _+_, _-_, _<_, _≤_}
 use native.Mathlib.Omega.{arith}
 use mathlib.Core.Bool.{Bool, true, false, _&&_}
 use mathlib.Core.List.{List, [], _∷_, _++_}
-use mathlib.Core.Path.{_≡_, refl, sym, ap, ap₂, subst, _∙_}
+use mathlib.Core.Path.{_≡_, refl, subst}
 use borrow.Author.Tests.{leb-true, le-leb}
 use lib.Dec.{leb}
-use lib.ListN.{length, take}
+use lib.ListN.{length}
 use Rattle.rules.specs.Ranges.{within}
 use Rattle.walk.specs.declared.due.Due.{Due}
 use Rattle.walk.specs.declared.due.Due.the-variants as due
 use Rattle.walk.specs.declared.due.Walk.{Walk}
-use Rattle.walk.specs.declared.reading.Found.the-variants.{There, Nowhere}
+use Rattle.walk.specs.declared.reading.Found.the-variants.{There}
 use Rattle.walk.specs.declared.reading.Onward.{Onward}
 use Rattle.walk.specs.declared.reading.Onward.the-variants.{Whole, Stopped}
 use Rattle.walk.specs.declared.reading.Stretch.{Stretch}
 use Rattle.walk.specs.declared.step.Step.the-variants.{Took}
 use Rattle.walk.specs.Due.{atStart, dueIf, cutPlace}
 use Rattle.walk.specs.After.{afterData}
-use Rattle.walk.specs.Step.{takeGeneric, takeSite, takeTask, takeCut, takeRadial, takeMoment, takeData, blockAt, stepOf}
+use Rattle.walk.specs.Step.{takeGeneric, takeSite, takeTask, takeCut, takeRadial, takeMoment, takeData, blockAt}
 use Rattle.walk.specs.Reading.{walkOn, last, fuel, stop, trace, stretches, advanceOf, nth}
 use Rattle.walk.specs.Growth.{bytesOf, Same}
 use Rattle.walk.proofs.Growing.{through}
@@ -27,9 +27,7 @@ use Rattle.walk.proofs.Radials.{Between, outside, between-next}
 use Rattle.walk.proofs.Run.{settle-took, took-inj, left, enough, taken, Goes, on, off, goes, run-took, run-stays}
 use Rattle.ask.specs.declared.tallies.Tally.{Tally}
 use Rattle.ask.specs.Growth.{NoFewer}
-use Rattle.ask.specs.Places.{inStretch}
-use Rattle.ask.specs.Tallies.{added, carried, tallyOne, tallyOver, cutAccepted}
-use Rattle.moments.specs.Moments.{momentsOf, findIn}
+use Rattle.ask.specs.Tallies.{added, tallyOver, cutAccepted}
 
 -- ---- where the stretches of a file lie
 

@@ -1,14 +1,13 @@
 -- Growth of answers: the statement of specs/Growth, for every A and C with a byte at least. Assumes nothing.
-use Prim.Native.Nat.{ℕ, _+_, _-_, _<_, _≤_}
+use Prim.Native.Nat.{ℕ, _+_, _-_, _<_}
 use native.Mathlib.Omega.{arith}
 use mathlib.Core.Bool.{Bool, true, false, cond}
 use mathlib.Core.List.{List, _++_}
 use mathlib.Core.Logic.{_⊎_, inl, inr}
-use mathlib.Core.Path.{_≡_, refl, sym, ap, ap₂, _∙_}
+use mathlib.Core.Path.{_≡_, refl, sym, ap, _∙_}
 use borrow.Author.Tests.{eqb-false, ne-eqb}
 use lib.Dec.{eqb}
 use lib.ListN.{length}
-use Rattle.le.specs.Le.{part}
 use Rattle.le.proofs.Laws.{part-in}
 use Rattle.blocks.specs.Radial.{radialOf, radialAt}
 use Rattle.moments.specs.declared.Found as moment
@@ -17,19 +16,18 @@ use Rattle.walk.specs.declared.reading.Found.{Found}
 use Rattle.walk.specs.declared.reading.Found.the-variants as found
 use Rattle.walk.specs.declared.reading.Stretch.{Stretch}
 use Rattle.walk.specs.Growth.{bytesOf, Grows}
-use Rattle.walk.specs.Reading.{stop, stretches, nth}
+use Rattle.walk.specs.Reading.{stretches, nth}
 use Rattle.walk.proofs.Grown.{grows}
 use Rattle.ask.specs.declared.answers.GateAnswer.the-variants as gate
-use Rattle.ask.specs.declared.answers.RadialAnswer.{RadialAnswer}
 use Rattle.ask.specs.declared.places.Where.{Where}
-use Rattle.ask.specs.declared.places.Where.the-variants.{At, NoRadial, NoMoment}
+use Rattle.ask.specs.declared.places.Where.the-variants.{At}
 use Rattle.ask.specs.declared.tallies.Tally.{Tally}
 use Rattle.ask.specs.declared.tallies.TallyAnswer.the-variants.{Counted, Refused}
-use Rattle.ask.specs.Answers.{radialTold, radialOfFile, momentTold, dataTold, gateTold}
-use Rattle.ask.specs.Growth.{gateAsked, NoFewer, Kept, AnswersGrow}
+use Rattle.ask.specs.Answers.{radialTold, momentTold, dataTold, gateTold}
+use Rattle.ask.specs.Growth.{gateAsked, Kept, AnswersGrow}
 use Rattle.ask.specs.Places.{inStretch, inFound, whereIs}
-use Rattle.ask.specs.Tallies.{added, tallyOver, tallyOf, cutAccepted, tallyTold, tallyAnswer}
-use Rattle.ask.proofs.Growing.{Placed, all-placed, nth-kept, nth-same, nth-placed, tally-same, accepted-kept, no-fewer}
+use Rattle.ask.specs.Tallies.{added, tallyOver, tallyOf, tallyTold}
+use Rattle.ask.proofs.Growing.{all-placed, nth-kept, nth-same, nth-placed, tally-same, accepted-kept, no-fewer}
 use Rattle.ask.proofs.Tallying.{tally-append}
 
 module _ (A C : List ℕ) (some : 0 < length C) where

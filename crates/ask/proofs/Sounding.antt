@@ -1,5 +1,5 @@
 -- Every moment that a question finds is one that the walk accepted. Assumes nothing.
-use Prim.Native.Nat.{ℕ, zero, suc, _+_, _-_, _%_, _<_, _≤_}
+use Prim.Native.Nat.{ℕ, zero, suc, _+_, _-_, _<_, _≤_}
 use native.Mathlib.Nat.{mod-eq-of-lt}
 use native.Mathlib.Omega.{arith}
 use mathlib.Core.Bool.{Bool, true, false, cond, _&&_}
@@ -9,7 +9,7 @@ use mathlib.Core.Path.{_≡_, refl, sym, ap, subst, _∙_}
 use borrow.Author.Tests.{leb-true, le-leb, eqb-true}
 use lib.Dec.{leb, eqb, lit<}
 use lib.IntN.{pos}
-use lib.ListN.{length, take, drop, getD, length-take, length-drop}
+use lib.ListN.{length, drop, length-take, length-drop}
 use lib.Seq.{getD-take, getD-drop}
 use mir.Syntax.{w16, w32}
 use Rattle.le.specs.Le.{part, int}
@@ -33,12 +33,10 @@ use Rattle.walk.specs.Growth.{bytesOf}
 use Rattle.walk.specs.Reading.{stretches, nth}
 use Rattle.walk.specs.Tiling.{dueWith, Tiled, none, more, WholeRadial, AllWhole}
 use Rattle.walk.proofs.Radials.{all-whole}
-use Rattle.ask.specs.declared.places.Where.{Where}
-use Rattle.ask.specs.declared.places.Where.the-variants.{At, NoRadial, NoMoment}
-use Rattle.ask.specs.Answers.{codingOf}
+use Rattle.ask.specs.declared.places.Where.the-variants.{At}
 use Rattle.ask.specs.Places.{inStretch, inFound, whereIs}
 use Rattle.ask.specs.Sound.{Sound}
-use Rattle.ask.proofs.Growing.{Placed, AllPlaced, all-placed, nth-placed}
+use Rattle.ask.proofs.Growing.{Placed, all-placed, nth-placed}
 
 -- ---- what an accepted header holds
 
@@ -85,7 +83,7 @@ module _ (f : List ℕ) (s : Stretch) (h : Placed f s) where
   own-part n at k =
       part-same n (bytesOf f s) f at (s .start + at)
       (λ i j. let e : s .start + at + i ≡ s .start + (at + i) = omega arith in
-        rw (getD-take (s .end - s .start) (drop (s .start) f) (at + i) 0 (omega arith), getD-drop (s .start) f (at + i) 0, e))
+      rw (getD-take (s .end - s .start) (drop (s .start) f) (at + i) 0 (omega arith), getD-drop (s .start) f (at + i) 0, e))
 
   own-moment : (at : ℕ) → at + 32 ≤ s .end - s .start → momentAt (bytesOf f s) at ≡ momentAt f (s .start + at)
   unfolding momentAt

@@ -3,18 +3,15 @@ use Prim.Native.Nat.{ℕ, _+_, _-_, _≤_}
 use native.Mathlib.Nat.{add-assoc, add-zero, zero-add}
 use native.Mathlib.Omega.{arith}
 use mathlib.Core.Bool.{Bool, true, false, cond}
-use mathlib.Core.List.{List, [], _∷_, _++_, map}
+use mathlib.Core.List.{List, [], _∷_, _++_}
 use mathlib.Core.Path.{_≡_, refl, sym, ap, _∙_}
 use lib.Dec.{eqb}
-use lib.ListN.{length, take, drop, length-take, length-drop}
+use lib.ListN.{length, length-take, length-drop}
 use Rattle.blocks.specs.Moment.{momentAt}
-use Rattle.gates.specs.declared.Counts.{Counts}
 use Rattle.gates.specs.Codes.{codesOf}
-use Rattle.gates.specs.Counting.{countOf, countsOf, summed, totalOf}
-use Rattle.gates.specs.Gates.{kindOf}
+use Rattle.gates.specs.Counting.{countOf, totalOf}
 use Rattle.gates.proofs.Codes.{codes-le}
 use Rattle.gates.proofs.Counting.{counts-all}
-use Rattle.moments.specs.declared.Found as moment
 use Rattle.moments.specs.Moments.{momentsOf, findIn, dataAt}
 use Rattle.walk.specs.declared.reading.Stretch.{Stretch}
 use Rattle.walk.specs.Growth.{bytesOf}

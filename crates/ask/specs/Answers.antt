@@ -26,7 +26,6 @@ use Rattle.ask.specs.declared.answers.GateAnswer.{GateAnswer}
 use Rattle.ask.specs.declared.answers.GateAnswer.the-variants.{Answered, Refused}
 use Rattle.ask.specs.declared.places.Where.{Where}
 use Rattle.ask.specs.declared.places.Where.the-variants.{At, NoRadial, NoMoment}
-use Rattle.ask.specs.Places.{whereIs}
 
 -- a radial: its record and its place; refused, zeros
 unfoldable pub radialTold : List ℕ → Found → RadialAnswer

@@ -7,8 +7,6 @@ use mathlib.Core.Path.{_≡_}
 use lib.ListN.{length}
 use Rattle.blocks.specs.Moment.{momentAt}
 use Rattle.moments.specs.Moments.{dataAt}
-use Rattle.walk.specs.declared.reading.Stretch.{Stretch}
-use Rattle.walk.specs.Growth.{bytesOf}
 use Rattle.ask.specs.Answers.{codingOf}
 
 pub record Sound (b : List ℕ) (p : ℕ) : Type 0 where

@@ -4,7 +4,6 @@ use mathlib.Core.Bool.{Bool, true, false}
 use mathlib.Core.List.{List, [], _∷_}
 use Prim.Native.Nat.{ℕ}
 use native.Mathlib.Omega.{arith}
-use Rattle.blocks.specs.declared.check.Check.{Check}
 use Rattle.blocks.specs.declared.check.Check.the-variants.{Fine, Broken}
 use Rattle.blocks.specs.Check.{Rule, also, judge, verdict}
 

@@ -1,10 +1,9 @@
 -- How long each record's bytes are. Assumes nothing.
 use mathlib.Core.Path.{_≡_}
-use mathlib.Core.List.{[], _∷_}
 use native.Mathlib.Omega.{arith}
 use lib.ListN.{length, length-append}
-use Rattle.le.specs.Le.{bytes, run}
-use Rattle.le.proofs.Laws.{length-bytes, length-run}
+use Rattle.le.specs.Le.{run}
+use Rattle.le.proofs.Laws.{length-bytes}
 use Rattle.blocks.specs.Generic.{genericBytes, GenericFits}
 use Rattle.blocks.specs.declared.generic.Generic.{Generic}
 use Rattle.blocks.specs.Site.{siteBytes, SiteFits}

@@ -3,10 +3,10 @@ use Prim.Native.Nat.{ℕ, _<_, _^_}
 use mathlib.Core.Path.{_≡_}
 use mathlib.Core.List.{List, [], _∷_, _++_}
 use lib.ListN.{length}
-use Rattle.le.specs.Le.{le, bytes, part, run, int}
-use Rattle.blocks.specs.declared.cut.Cut.{Cut}
 use lib.IntN.{pos}
+use Rattle.le.specs.Le.{le, bytes, part, run, int}
 use Rattle.rules.specs.Ranges.{among}
+use Rattle.blocks.specs.declared.cut.Cut.{Cut}
 use Rattle.blocks.specs.declared.check.Check.{Check}
 use Rattle.blocks.specs.Check.{Rule, rule, verdict}
 

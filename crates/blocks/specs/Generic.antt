@@ -4,8 +4,8 @@ use mathlib.Core.Path.{_≡_}
 use mathlib.Core.List.{List, [], _∷_, _++_}
 use lib.ListN.{length}
 use Rattle.le.specs.Le.{le, bytes, part, run, int}
-use Rattle.blocks.specs.declared.generic.Generic.{Generic}
 use Rattle.rules.specs.Ranges.{is}
+use Rattle.blocks.specs.declared.generic.Generic.{Generic}
 use Rattle.blocks.specs.declared.check.Check.{Check}
 use Rattle.blocks.specs.Check.{Rule, rule, verdict}
 

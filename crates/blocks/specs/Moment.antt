@@ -3,11 +3,11 @@ use Prim.Native.Nat.{ℕ, _<_, _^_}
 use mathlib.Core.Path.{_≡_}
 use mathlib.Core.List.{List, [], _∷_, _++_}
 use lib.ListN.{length}
-use Rattle.le.specs.Le.{le, bytes, part, run, int}
-use Rattle.blocks.specs.declared.moment.Moment.{Moment}
 use lib.IntN.{pos}
+use Rattle.le.specs.Le.{le, bytes, part, run, int}
 use Rattle.rules.specs.Ranges.{among}
 use Rattle.rules.specs.Moments.{binLengthOk, lengthOk, typeOk}
+use Rattle.blocks.specs.declared.moment.Moment.{Moment}
 use Rattle.blocks.specs.declared.moment.MomentDue.{MomentDue}
 use Rattle.blocks.specs.declared.check.Check.{Check}
 use Rattle.blocks.specs.Check.{Rule, rule, verdict}

@@ -3,12 +3,12 @@ use Prim.Native.Nat.{ℕ, _<_, _^_}
 use mathlib.Core.Path.{_≡_}
 use mathlib.Core.List.{List, [], _∷_, _++_}
 use lib.ListN.{length}
-use Rattle.le.specs.Le.{le, bytes, part, run, int}
-use Rattle.blocks.specs.declared.radial.Radial.{Radial}
 use lib.IntN.{pos, negsuc}
+use Rattle.le.specs.Le.{le, bytes, part, run, int}
 use Rattle.rules.specs.Ranges.{among, angle, counts, countsInCut, is, notBelowZero}
 use Rattle.rules.specs.States.{stateOk}
 use Rattle.rules.specs.Moments.{momentNumberOk}
+use Rattle.blocks.specs.declared.radial.Radial.{Radial}
 use Rattle.blocks.specs.declared.radial.RadialDue.{RadialDue}
 use Rattle.blocks.specs.declared.check.Check.{Check}
 use Rattle.blocks.specs.Check.{Rule, rule, verdict}

@@ -3,11 +3,11 @@ use Prim.Native.Nat.{ℕ, _<_, _^_}
 use mathlib.Core.Path.{_≡_}
 use mathlib.Core.List.{List, [], _∷_, _++_}
 use lib.ListN.{length}
-use Rattle.le.specs.Le.{le, bytes, part, run, int}
-use Rattle.blocks.specs.declared.task.Task.{Task}
 use lib.IntN.{pos}
+use Rattle.le.specs.Le.{le, bytes, part, run, int}
 use Rattle.rules.specs.Ranges.{among, notBelowZero}
 use Rattle.rules.specs.States.{cutNumberOk}
+use Rattle.blocks.specs.declared.task.Task.{Task}
 use Rattle.blocks.specs.declared.check.Check.{Check}
 use Rattle.blocks.specs.Check.{Rule, rule, verdict}
 

@@ -1,9 +1,8 @@
 -- Each demand, proved by citing the crates that hold it. Assumes nothing.
-use mathlib.Core.List.{List, [], _∷_}
+use mathlib.Core.List.{List}
 use mathlib.Core.Path.{_≡_, refl, sym, ap, _∙_}
-use Prim.Native.Nat.{ℕ, zero, suc, _<_, _≤_}
+use Prim.Native.Nat.{ℕ, zero, suc, _<_}
 use native.Mathlib.Omega.{arith}
-use lib.IntN.{pos}
 use Rattle.blocks.proofs.Judged.{all-hold, fine-if}
 use Rattle.blocks.proofs.Trips.Cut as cut
 use Rattle.blocks.proofs.Trips.Generic as generic
@@ -14,7 +13,7 @@ use Rattle.blocks.proofs.Trips.Task as task
 use Rattle.gates.specs.declared.Coding.{Coding}
 use Rattle.gates.specs.declared.Gate.{Gate}
 use Rattle.gates.specs.declared.Told.{Told}
-use Rattle.gates.specs.Gates.{kindOf, gateOf, toldGate, toldOf}
+use Rattle.gates.specs.Gates.{kindOf, gateOf, toldGate}
 use Rattle.gates.proofs.Gates.{gate-value, told-value, told-other}
 use Rattle.gates.proofs.Nearest.{hundredths-near}
 use Rattle.gates.proofs.Rows.{row-one}
@@ -25,7 +24,7 @@ use Rattle.walk.specs.declared.reading.Verdict.the-variants as verdict
 use Rattle.walk.specs.declared.step.Step.{Step}
 use Rattle.walk.specs.declared.step.Step.the-variants.{Took, Open, Refused, Complete}
 use Rattle.walk.specs.Due.{atStart}
-use Rattle.walk.specs.Reading.{Tells, verdictTold, stop, ending, endingTold, fuel}
+use Rattle.walk.specs.Reading.{Tells, verdictTold, ending, endingTold, fuel}
 use Rattle.walk.proofs.Grown.{grows}
 use Rattle.walk.proofs.Radials.{all-whole}
 use Rattle.walk.proofs.Run.{stays, last-off, enough}
@@ -33,7 +32,7 @@ use Rattle.ask.proofs.Grown.{answers-grow}
 use Rattle.ask.proofs.Sounding.{sound}
 use Rattle.demands.specs.One.{Determined, Ending, is-complete, is-open, is-refused}
 use Rattle.demands.specs.Two.{RefusedExactly, WholeRadials, Codes, Trips}
-use Rattle.demands.specs.Three.{Growth, DemandThree}
+use Rattle.demands.specs.Three.{DemandThree}
 
 -- ---- demand 1
 
@@ -95,11 +94,11 @@ codes =
     record {
       special = special;
       bare = λ c code h.
-        let e = told-other c code (not-value c code h) in
-        (ap (λ (t : Told). t .difference) e, (ap (λ (t : Told). t .scale) e, ap (λ (t : Told). t .hundredths) e));
+          let e = told-other c code (not-value c code h) in
+          (ap (λ (t : Told). t .difference) e, (ap (λ (t : Told). t .scale) e, ap (λ (t : Told). t .hundredths) e));
       value = λ c code h.
-        let g = gate-value c code h in
-        rw (← g) (told-value c code (ap (λ (x : Gate). toldGate x .0) g));
+          let g = gate-value c code h in
+          rw (← g) (told-value c code (ap (λ (x : Gate). toldGate x .0) g));
       hundredths = hundredths-near;
     }
 

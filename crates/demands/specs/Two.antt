@@ -1,5 +1,5 @@
 -- DEMAND 2: reading means what the standard says, as document 01 settles it.
-use mathlib.Core.List.{List, [], _∷_}
+use mathlib.Core.List.{List}
 use mathlib.Core.Path.{_≡_}
 use Prim.Native.Nat.{ℕ, _<_, _≤_}
 use lib.IntN.{pos}

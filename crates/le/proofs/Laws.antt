@@ -9,7 +9,7 @@ use native.Mathlib.Omega.{arith}
 use lib.Dec.{lit<, leb}
 use lib.Arith.{mod-mul}
 use lib.ListN.{length, getD, take, drop, set, length-append, length-take, length-drop, List·getD-eq-default, List·getD-append}
-use lib.Seq.{drop-cons, take-at, drop-append-add, drop-drop, getD-append-add, getD-take, getD-drop, length-take-le, take-all, drop-length, sets-eq, set-at, append-snoc, paste-zero}
+use lib.Seq.{drop-cons, take-at, drop-append-add, drop-drop, getD-append-add, getD-take, length-take-le, take-all, drop-length, sets-eq, set-at, append-snoc, paste-zero}
 use borrow.Author.Tests.{le-leb, lt-leb}
 use Rattle.le.specs.Le.{le, bytes, part, patch, stored, Bytes, run, items}
 

@@ -1,9 +1,9 @@
 -- The order of f32 values by their patterns: a finite pattern's magnitude goes up with the pattern, so a range of values is two ranges of patterns. Assumes nothing.
 use mathlib.Core.Path.{_≡_, refl, sym, ap, _∙_, subst}
-use mathlib.Core.Bool.{Bool, true, false, not, _&&_, _||_, Bool·beq, cond}
+use mathlib.Core.Bool.{Bool, true, false, _&&_, _||_, cond}
 use mathlib.Core.Logic.{dite}
-use Prim.Native.Nat.{ℕ, zero, suc, _+_, _-_, _*_, _/_, _%_, _^_, _≤_, _<_}
-use native.Mathlib.Nat.{mul-pos, mul-one, mul-assoc, mul-comm, mul-right-comm, zero-mul, add-mul, mul-lt-mul-of-pos-right, le-of-mul-le-mul-right, lt-of-mul-lt-mul-right, mul-le-mul-right, mul-le-mul-left, le-trans, lt-of-lt-of-le, le-of-eq, mod-eq-of-lt, pow-succ'}
+use Prim.Native.Nat.{ℕ, suc, _+_, _-_, _*_, _/_, _%_, _^_, _≤_, _<_}
+use native.Mathlib.Nat.{mul-pos, mul-one, mul-assoc, mul-comm, mul-right-comm, zero-mul, add-mul, mul-lt-mul-of-pos-right, le-of-mul-le-mul-right, lt-of-mul-lt-mul-right, mul-le-mul-right, mul-le-mul-left, le-trans, lt-of-lt-of-le, mod-eq-of-lt, pow-succ'}
 use native.Mathlib.Decide.{decLt}
 use native.Mathlib.Omega.{arith}
 use lib.Dec.{leb, ltb, eqb}

@@ -1,5 +1,5 @@
 -- When a field is in its range (document 01, "Field rules and refusal numbers").
-use mathlib.Core.Bool.{Bool, _&&_, cond}
+use mathlib.Core.Bool.{Bool, _&&_}
 use Prim.Native.Nat.{ℕ, _+_}
 use lib.Dec.{leb}
 use lib.Ieee.{Float, binary32, ofBits, ofInt, le}

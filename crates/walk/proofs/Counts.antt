@@ -1,12 +1,12 @@
 -- The whole radials that the walk counts are the stretches that it has passed. Assumes nothing.
-use Prim.Native.Nat.{ℕ, zero, suc, _+_, _<_, _≤_}
+use Prim.Native.Nat.{ℕ, zero, suc, _+_}
 use native.Mathlib.Omega.{arith}
 use mathlib.Core.Path.{_≡_, refl, sym, ap, subst, subst⁻¹, _∙_}
-use mathlib.Core.Bool.{Bool, true, false, not, cond, _&&_}
-use mathlib.Core.List.{List, [], _∷_}
+use mathlib.Core.Bool.{Bool, true, false, not, cond}
+use mathlib.Core.List.{List, []}
 use borrow.Author.Tests.{lt-ltb, ne-eqb}
 use lib.Dec.{eqb, ltb}
-use lib.ListN.{length, take}
+use lib.ListN.{length}
 use Rattle.rules.proofs.Numbers.{counts-is}
 use Rattle.blocks.specs.declared.check.Check.{Check}
 use Rattle.blocks.specs.declared.check.Check.the-variants.{Fine, Broken}
@@ -17,8 +17,8 @@ use Rattle.walk.specs.declared.due.Due.the-variants as due
 use Rattle.walk.specs.declared.due.Walk.{Walk}
 use Rattle.walk.specs.declared.reading.Stretch.{Stretch}
 use Rattle.walk.specs.declared.step.Step.{Step}
-use Rattle.walk.specs.declared.step.Step.the-variants.{Took, Open, Refused, Complete}
-use Rattle.walk.specs.Due.{sizeOf, dueIf, endsRadial, radialDue, atStart}
+use Rattle.walk.specs.declared.step.Step.the-variants.{Took}
+use Rattle.walk.specs.Due.{dueIf, endsRadial, radialDue, atStart}
 use Rattle.walk.specs.After.{afterData, afterDataIf, closesCut}
 use Rattle.walk.specs.Step.{settle, takeGeneric, takeSite, takeTask, takeCut, takeRadial, takeMoment, takeData, cutIn, blockAt, stepOf}
 use Rattle.walk.specs.Reading.{walkOn, last, fuel, stop, stretchIf, stretchOf, trace, stretches, verdictTold, endingTold, Tells}

@@ -6,7 +6,7 @@ use mathlib.Core.Logic.{dite}
 use mathlib.Core.Path.{_≡_, refl, sym, ap, _∙_}
 use mathlib.Core.Bool.{Bool, true, false}
 use mathlib.Core.List.{List, [], _∷_, _++_}
-use lib.ListN.{length, take, drop, length-drop}
+use lib.ListN.{length, drop, length-drop}
 use lib.Seq.{take-append-le, drop-append-le}
 use Rattle.blocks.specs.declared.check.Check.{Check}
 use Rattle.blocks.specs.declared.check.Check.the-variants.{Fine, Broken}
@@ -16,13 +16,13 @@ use Rattle.walk.specs.declared.due.Walk.{Walk}
 use Rattle.walk.specs.declared.reading.Stretch.{Stretch}
 use Rattle.walk.specs.declared.step.Step.{Step}
 use Rattle.walk.specs.declared.step.Step.the-variants.{Took, Open, Refused, Complete}
-use Rattle.walk.specs.Due.{sizeOf, isEnd, endsRadial, atStart}
+use Rattle.walk.specs.Due.{sizeOf, endsRadial, atStart}
 use Rattle.walk.specs.Step.{settle, takeGeneric, takeSite, takeTask, takeCut, takeRadial, takeMoment, takeData, blockAt, stepOf}
 use Rattle.walk.specs.Reading.{walkOn, last, fuel, stop, ending, endingTold, stretch, stretchIf, stretchOf, trace}
 use Rattle.walk.specs.Growth.{told, bytesOf, Same, Further, read, refused, Grows}
 use Rattle.walk.proofs.Run.{View, here, short, over, done, view, is-here, is-short, is-over, is-done, Plain, took, taken, stays, Goes, on, off, goes, run-took, run-step, run-stays, last-within, enough}
 use Rattle.walk.proofs.Run as run
-use Rattle.walk.proofs.Growing.{keeps-refused, grows-complete, Opens, grows-open, through, kept, rests}
+use Rattle.walk.proofs.Growing.{keeps-refused, grows-complete, grows-open, through, kept, rests}
 
 -- ---- what is told, and the step that tells it
 

@@ -2,15 +2,13 @@
 use Prim.Native.Nat.{ℕ, zero, suc, _<_, _≤_, _-_}
 use native.Mathlib.Omega.{arith}
 use lib.ListN.{length}
-use mathlib.Core.Path.{_≡_, refl, sym, ap, ap₂, subst⁻¹, _∙_}
+use mathlib.Core.Path.{_≡_, refl, sym, ap, ap₂, _∙_}
 use mathlib.Core.Bool.{Bool, true, false}
 use mathlib.Core.List.{List, [], _∷_}
 use Rattle.walk.specs.declared.due.Walk.{Walk}
-use Rattle.walk.specs.declared.step.Step.{Step}
 use Rattle.walk.specs.declared.step.Step.the-variants.{Took}
 use Rattle.walk.specs.declared.reading.Stretch.{Stretch}
 use Rattle.walk.specs.declared.reading.Found.the-variants.{There, Nowhere}
-use Rattle.walk.specs.declared.reading.Onward.{Onward}
 use Rattle.walk.specs.declared.reading.Onward.the-variants.{Whole, Stopped}
 use Rattle.walk.specs.Due.{endsRadial}
 use Rattle.walk.specs.Step.{stepOf}

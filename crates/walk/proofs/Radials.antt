@@ -4,20 +4,18 @@ use Prim.Native.Nat.{ℕ, zero, suc, _+_, _-_, _<_, _≤_}
 use native.Mathlib.Omega.{arith}
 use mathlib.Core.Path.{_≡_, refl, sym, ap, subst, _∙_}
 use mathlib.Core.Bool.{Bool, true, false, not, _&&_}
-use mathlib.Core.List.{List, [], _∷_}
-use lib.Dec.{eqb, ltb, lit<}
+use mathlib.Core.List.{List}
+use lib.Dec.{ltb, lit<}
 use lib.ListN.{length, take}
 use mir.Syntax.{w32}
 use borrow.Author.Tests.{eqb-true, eqb-false, lt-ltb, le-ltb, leb-true}
-use Rattle.le.specs.Le.{part}
 use Rattle.le.proofs.Laws.{part-take}
 use Rattle.rules.specs.Moments.{momentNumberOk, withBit}
-use Rattle.rules.specs.Ranges.{among, within}
+use Rattle.rules.specs.Ranges.{within}
 use Rattle.rules.proofs.Numbers.{by-bits}
 use Rattle.blocks.specs.declared.check.Check.the-variants.{Fine}
 use Rattle.blocks.specs.declared.moment.Moment.{Moment}
 use Rattle.blocks.specs.declared.radial.Radial.{Radial}
-use Rattle.blocks.specs.declared.radial.RadialDue.{RadialDue}
 use Rattle.blocks.specs.Moment.{momentOf, momentAt, momentCheck}
 use Rattle.blocks.specs.Radial.{radialOf, radialAt, radialCheck, radialRules}
 use Rattle.blocks.proofs.Judged.{all-hold}
@@ -28,9 +26,9 @@ use Rattle.walk.specs.declared.reading.Stretch.{Stretch}
 use Rattle.walk.specs.declared.reading.Onward.{Onward}
 use Rattle.walk.specs.declared.reading.Onward.the-variants.{Whole, Stopped}
 use Rattle.walk.specs.declared.step.Step.the-variants.{Took}
-use Rattle.walk.specs.Due.{sizeAt, sizeOf, dueIf, endsRadial, radialDue, momentDue, atStart}
+use Rattle.walk.specs.Due.{sizeAt, dueIf, endsRadial, radialDue, atStart}
 use Rattle.walk.specs.After.{afterData, afterDataIf, closesCut, afterRadial, afterMoment}
-use Rattle.walk.specs.Step.{settle, takeGeneric, takeSite, takeTask, takeCut, takeRadial, takeMoment, takeData, cutIn, blockAt, stepOf}
+use Rattle.walk.specs.Step.{takeGeneric, takeSite, takeTask, takeCut, takeRadial, takeMoment, takeData, cutIn, blockAt}
 use Rattle.walk.specs.Reading.{walkOn, fuel, stretch, trace, stretches, advanceIf, onTo, advanceOf}
 use Rattle.walk.specs.Tiling.{dueWith, Tiled, none, more, WholeRadial, AllWhole}
 use Rattle.walk.proofs.Counts.{settle-fine}

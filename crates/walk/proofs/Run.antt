@@ -16,7 +16,7 @@ use Rattle.walk.specs.declared.due.Walk.{Walk}
 use Rattle.walk.specs.declared.step.Step.{Step}
 use Rattle.walk.specs.declared.step.Step.the-variants.{Took, Open, Refused, Complete}
 use Rattle.walk.specs.Due.{sizeAt, sizeOf, isEnd, dueIf}
-use Rattle.walk.specs.After.{afterData, afterDataIf, closesCut}
+use Rattle.walk.specs.After.{afterData, closesCut}
 use Rattle.walk.specs.Step.{settle, takeGeneric, takeSite, takeTask, takeCut, takeRadial, takeMoment, takeData, blockAt, pick, stepOf}
 use Rattle.walk.specs.Reading.{along, walkOn, last, fuel}
 

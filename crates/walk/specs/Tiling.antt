@@ -1,6 +1,6 @@
 -- What a whole radial is made of (document 01, "Blocks" and "Tiling"): its header, and moments that tile the rest of its
 -- stretch, each of which keeps its rules.
-use Prim.Native.Nat.{ℕ, suc, _+_, _-_, _≤_}
+use Prim.Native.Nat.{ℕ, suc, _+_, _-_}
 use mathlib.Core.List.{List, [], _∷_}
 use mathlib.Core.Path.{_≡_}
 use Rattle.rules.specs.Moments.{withBit}

@@ -1,6 +1,6 @@
 -- The moment header block (table 3-2): record to bytes to record, and bytes to record to bytes. Assumes nothing.
-use mathlib.Core.Path.{_≡_, refl, sym, ap, _∙_}
-use mathlib.Core.List.{List, [], _∷_, _++_}
+use mathlib.Core.Path.{_≡_, refl, _∙_}
+use mathlib.Core.List.{List, []}
 use Prim.Native.Nat.{ℕ}
 use lib.ListN.{length}
 use Rattle.le.specs.Le.{le, bytes, part, run, items, Bytes}

@@ -1,10 +1,10 @@
 -- The radial header block (table 3-1): record to bytes to record, and bytes to record to bytes. Assumes nothing.
-use mathlib.Core.Path.{_≡_, refl, sym, ap, _∙_}
-use mathlib.Core.List.{List, [], _∷_, _++_}
+use mathlib.Core.Path.{_≡_, refl, _∙_}
+use mathlib.Core.List.{List, []}
 use Prim.Native.Nat.{ℕ}
 use lib.ListN.{length}
 use Rattle.le.specs.Le.{le, bytes, part, run, items, Bytes}
-use Rattle.le.proofs.Laws.{le-bytes, bytes-le, part-all, join, run-numbers}
+use Rattle.le.proofs.Laws.{le-bytes, part-all, join, run-numbers}
 use Rattle.blocks.specs.Radial.{radialOf, radialBytes, RadialFits}
 use Rattle.blocks.specs.declared.radial.Radial.{Radial}
 

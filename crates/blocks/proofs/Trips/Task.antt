@@ -4,7 +4,7 @@ use mathlib.Core.List.{List, [], _∷_, _++_}
 use Prim.Native.Nat.{ℕ}
 use lib.ListN.{length}
 use Rattle.le.specs.Le.{le, bytes, part, run, items, Bytes}
-use Rattle.le.proofs.Laws.{le-bytes, bytes-le, part-all, join, run-numbers}
+use Rattle.le.proofs.Laws.{le-bytes, part-all, join, run-numbers}
 use Rattle.blocks.specs.Task.{taskOf, taskBytes, TaskFits}
 use Rattle.blocks.specs.declared.task.Task.{Task}
 

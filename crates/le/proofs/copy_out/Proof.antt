@@ -1,10 +1,10 @@
-use mathlib.Core.Path.{_≡_, refl, sym, ap, _∙_}
+use mathlib.Core.Path.{sym, _∙_}
 use Prim.Native.Nat.{_+_, _-_, _≤_}
 use native.Mathlib.Omega.{arith}
 use borrow.Author.Needs.{needs}
 use borrow.Author.Tests.{leb-true}
 use lib.ListN.{length}
-use Rattle.le.specs.Le.{part, patch}
+use Rattle.le.specs.Le.{part}
 use Rattle.le.proofs.Laws.{patch-all, length-part, part-is}
 use Rattle.le.proofs.copy_out.Statement.{statement}
 use Rattle.le.proofs.copy_out.Tie as tie

@@ -1,9 +1,9 @@
-use mathlib.Core.Path.{_≡_, refl, sym, ap, _∙_}
+use mathlib.Core.Path.{_≡_, _∙_}
 use mathlib.Core.List.{_++_}
 use Prim.Native.Nat.{_+_, _/_, _%_, _^_}
 use borrow.Author.Needs.{needs}
 use native.Mathlib.Omega.{arith}
-use Rattle.le.specs.Le.{bytes, patch}
+use Rattle.le.specs.Le.{bytes}
 use Rattle.le.proofs.Laws.{patch-join, length-bytes, bytes-cut, bytes-low}
 use Rattle.le.proofs.put_u64_here.Statement.{statement}
 use Rattle.le.proofs.put_u64_here.Tie as tie

@@ -1,9 +1,6 @@
-use mathlib.Core.Path.{sym, _∙_}
-use Prim.Native.Nat.{_<_, _≤_}
 use borrow.Author.Needs.{needs}
 use borrow.Author.Tests.{lt-ltb, le-ltb}
 use lib.ListN.{length}
-use mathlib.Core.Path.{subst}
 use Rattle.gates.specs.Codes.{codesOf}
 use Rattle.ask.specs.Answers.{gateIn}
 use Rattle.ask.proofs.answers.gate_in.Statement.{statement}

@@ -1,4 +1,4 @@
-use mathlib.Core.Path.{refl, sym, ap, subst, _∙_}
+use mathlib.Core.Path.{refl}
 use borrow.Author.Needs.{needs}
 use Rattle.ask.specs.Answers.{RowTold}
 use Rattle.ask.proofs.answers.row.Statement.{statement}

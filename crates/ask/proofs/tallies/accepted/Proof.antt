@@ -1,6 +1,3 @@
-use mathlib.Core.Path.{sym}
-use mathlib.Core.Bool.{_&&_}
-use Prim.Native.Nat.{_+_}
 use native.Mathlib.Omega.{arith}
 use borrow.Author.Needs.{needs}
 use Rattle.rules.proofs.Numbers.{in-range, under, over}

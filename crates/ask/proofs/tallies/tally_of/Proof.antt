@@ -1,15 +1,11 @@
 -- The loop's tally, with what the radials still to come add, is the file's. Assumes nothing.
-use mathlib.Core.Path.{_≡_, refl, sym, ap, ap₂, _∙_}
-use mathlib.Core.Bool.{Bool}
-use Prim.Native.Nat.{_+_, _<_, _^_}
+use mathlib.Core.Path.{sym, ap, ap₂, _∙_}
 use native.Mathlib.Omega.{arith}
 use borrow.Author.Needs.{needs}
-use lib.ListN.{length}
 use Rattle.walk.specs.declared.due.Walk.{Walk}
 use Rattle.walk.proofs.Loops.{further}
 use Rattle.walk.proofs.Run.{left}
-use Rattle.ask.specs.declared.tallies.Tally.{Tally}
-use Rattle.ask.specs.Tallies.{added, tallyOne, cutAccepted, tallyTold}
+use Rattle.ask.specs.Tallies.{cutAccepted, tallyTold}
 use Rattle.ask.proofs.Tallying.{Counting, counting-none, Adds, counting-turn, counting-ends}
 use Rattle.ask.proofs.tallies.tally_of.Statement.{statement}
 use Rattle.ask.proofs.tallies.tally_of.Tie as tie

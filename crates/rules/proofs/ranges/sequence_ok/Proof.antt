@@ -1,9 +1,8 @@
-use mathlib.Core.Path.{refl, sym, _∙_}
+use mathlib.Core.Path.{sym, _∙_}
 use Prim.Native.Nat.{_+_, _-_}
 use native.Mathlib.Omega.{arith}
 use borrow.Author.Needs.{needs}
 use borrow.Author.Tests.{ne-eqb}
-use lib.Dec.{eqb}
 use mir.Syntax.{w32}
 use Rattle.le.proofs.Tests.{eqb-same}
 use Rattle.rules.specs.Ranges.{counts}

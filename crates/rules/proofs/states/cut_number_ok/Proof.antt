@@ -1,10 +1,6 @@
-use mathlib.Core.Path.{sym, ap, _∙_}
-use mathlib.Core.Bool.{Bool}
-use Prim.Native.Nat.{ℕ}
 use native.Mathlib.Omega.{arith}
 use borrow.Author.Needs.{needs}
 use borrow.Author.Tests.{le-leb}
-use lib.Dec.{leb}
 use mir.Syntax.{w32}
 use Rattle.rules.specs.Ranges.{within}
 use Rattle.rules.specs.States.{cutNumberOk, mostCuts}

@@ -1,6 +1,4 @@
 use mathlib.Core.Logic.{inl, inr, ⊎-elim}
-use mathlib.Core.Path.{_≡_}
-use mathlib.Core.Bool.{true}
 use lib.Dec.{lit<}
 use mir.Syntax.{w32}
 use borrow.Author.Tests.{ne-eqb}

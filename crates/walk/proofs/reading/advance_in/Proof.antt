@@ -1,10 +1,9 @@
 -- The loop's walks lead to the same whole radial, or stop. Assumes nothing.
-use mathlib.Core.Path.{_≡_, refl, sym, ap, subst⁻¹, _∙_}
+use mathlib.Core.Path.{_≡_, refl, sym, subst⁻¹, _∙_}
 use Prim.Native.Nat.{_≤_}
-use native.Mathlib.Omega.{arith}
 use borrow.Author.Needs.{needs}
 use lib.ListN.{length}
-use Rattle.walk.specs.declared.step.Step.the-variants.{Took, Open, Refused, Complete}
+use Rattle.walk.specs.declared.step.Step.the-variants.{Took}
 use Rattle.walk.specs.Step.{stepOf}
 use Rattle.walk.specs.Reading.{advanceOf}
 use Rattle.walk.proofs.Run.{left, taken, stays}

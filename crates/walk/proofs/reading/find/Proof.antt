@@ -1,10 +1,8 @@
 -- The loop's walk has passed as many whole radials as `before` has come down. Assumes nothing.
-use mathlib.Core.Path.{_≡_, refl, sym, ap, _∙_}
-use Prim.Native.Nat.{ℕ, suc, _-_, _≤_}
+use mathlib.Core.Path.{_≡_, sym, ap, _∙_}
+use Prim.Native.Nat.{suc, _-_}
 use native.Mathlib.Omega.{arith}
 use borrow.Author.Needs.{needs}
-use lib.ListN.{length}
-use Rattle.walk.specs.Due.{atStart}
 use Rattle.walk.specs.Reading.{stretches, trace, fuel, nth}
 use Rattle.walk.proofs.Run.{left}
 use Rattle.walk.proofs.Loops.{Further, further, no-more, found-first, found-later, found-none, found-zero}

@@ -1,5 +1,5 @@
 use Prim.Native.Nat.{ℕ, _+_}
-use mathlib.Core.Path.{_≡_, ap, ap₂, _∙_}
+use mathlib.Core.Path.{ap₂}
 use borrow.Author.Needs.{needs}
 use Rattle.blocks.specs.Radial.{radialAt, radialCheck}
 use Rattle.walk.specs.Due.{cutPlace, radialDue}

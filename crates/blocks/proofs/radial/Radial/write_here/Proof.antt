@@ -2,7 +2,7 @@
 use mathlib.Core.List.{[], _∷_}
 use borrow.Author.Needs.{needs}
 use native.Mathlib.Omega.{arith}
-use Rattle.le.specs.Le.{bytes, run}
+use Rattle.le.specs.Le.{bytes}
 use Rattle.le.proofs.Laws.{length-bytes, length-run, laid-first, laid-next}
 use Rattle.blocks.specs.Radial.{radialBytes}
 use Rattle.blocks.proofs.radial.Radial.write_here.Statement.{statement}

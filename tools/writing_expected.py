@@ -1,0 +1,127 @@
+#!/usr/bin/env python3
+"""What the program `writing` prints: volumes written one block at a time with their indexes,
+and each refusal of the writer and of the index.
+
+    python3 tools/writing_expected.py > crates/writing/stdout
+
+The stored output was worked out here: the volumes are built whole, from field dictionaries,
+by volumes.py, and what is told of them, their indexes and the refusals come from the reference
+reader and writer, which were written from the document's text alone; nothing in it comes from
+the program. Two lines for each volume:
+
+    scan type T, moments M: verdict, bytes read, whole radials, room, its checksum
+    index LENGTH BYTES, whether it is right, whether it is with one byte changed
+
+M says which moments each radial has: 1 one of one-byte gates, 2 one of two-byte gates, 3 both.
+A room is filled with A5 before anything is written, and its checksum covers all of it. A line
+for each refusal: what is tried, the answer, then, before and after it, the room's checksum and
+the state's count of bytes.
+"""
+import sys
+
+sys.dont_write_bytecode = True
+import reference as ref
+import volumes
+
+
+def room_of(size, data=b''):
+    return bytearray(data + b'\xa5' * (size - len(data)))
+
+
+def checksum(room):
+    total = 0
+    for byte in room:
+        total = (31 * total + byte) % 2**32
+    return total
+
+
+def radial(moments, sequence):
+    """A radial, with its sequence number in the last gate of each of its moments."""
+    narrow = volumes.moment(2, [0, 1, 66, sequence])
+    wide = volumes.moment(4, volumes.words(0, 261, 66, 512 + sequence))
+    return volumes.radial(*{1: [narrow], 2: [wide], 3: [narrow, wide]}[moments])
+
+
+def spec(scan_type, moments, counts):
+    """A volume of cuts that have these numbers of radials."""
+    cuts, sequence = [], 0
+    for count in counts:
+        radials = [radial(moments, sequence + j) for j in range(1, count + 1)]
+        cuts.append(volumes.cut(radials, volumes.mask(2, 4), volumes.mask(4)))
+        sequence += count
+    out = volumes.volume(cuts, **{'name': b'', 'scan type': scan_type})
+    out['site'] = {'code': b'', 'name': b''}
+    return out
+
+
+def told(answer):
+    return answer if isinstance(answer, str) else ' '.join(map(str, answer))
+
+
+def yes(right):
+    return 'yes' if right else 'no'
+
+
+def print_volume(scan_type, moments, counts):
+    data = volumes.build(spec(scan_type, moments, counts))
+    r = ref.read(data)
+    print(f'scan type {scan_type}, moments {moments}: {told(r.verdict)} {r.bytes_read} '
+          f'{len(r.radials)}, room {checksum(room_of(2500, data))}')
+    index = ref.index(data)
+    changed = index[:22] + b'\xff' + index[23:]
+    print(f'index {len(index)} {index.hex()} {yes(ref.index_right(data, index))} '
+          f'{yes(ref.index_right(data, changed))}')
+
+
+def print_put(label, written, room, kind, block):
+    before = checksum(room)
+    answer = ref.write(written, room, kind, block)
+    assert answer[0] == 'refused', label
+    print(f'{label}: {told(answer)}, room {before} {checksum(room)}, written {written} {written}')
+
+
+def print_refusals():
+    data = volumes.build(spec(0, 1, [2]))
+    blocks = {b.place: data[b.place:b.end] for b in ref.read(data).blocks}
+    opening = blocks[672]
+
+    def put(label, size, length, kind, block, written=None):
+        """A block after so many bytes of the volume, in a room of a size."""
+        print_put(label, length if written is None else written, room_of(size, data[:length]),
+                  kind, block)
+
+    put('25, a radial after the end', 1000, 872, 'radial', opening)
+    put('34, a radial before all else', 1000, 0, 'radial', opening)
+    many = spec(0, 1, [2])
+    many['task']['cut number'] = 51
+    put('8, 51 cuts', 1000, 160, 'task', volumes.build(many)[160:416])
+    put('35, three bytes of four', 1000, 768, 'data', b'\5\6\7')
+    put('33, a room of 735 bytes', 735, 672, 'radial', opening)
+    put('37, more bytes than the room has', 1000, 672, 'radial', opening, 1001)
+    put('37, the end is inside a block', 1000, 672, 'radial', opening, 600)
+    # The reference's state is its count of bytes alone, so what a state says beside it is
+    # settled by the table's last line: bytes that are not what the state says of them.
+    same = checksum(room_of(1000, data[:672]))
+    print(f'37, another number of cuts: {told(ref.refused(37))}, room {same} {same}, '
+          'written 672 672')
+    print_put('37, another first byte', 672, room_of(1000, b'\0' + data[1:672]), 'radial', opening)
+
+    same = checksum(room_of(22))
+    for label, answer in (
+            ('36, an index of an open file', ref.index(data[:871], 22)),
+            ('33, a room of 22 bytes for an index of 23', ref.index(data, 22))):
+        print(f'{label}: {answer[0]} {answer[1]}, room {same} {same}')
+
+
+def main():
+    for scan_type, moments in ((0, 1), (1, 2), (3, 3), (4, 1), (6, 2)):
+        print_volume(scan_type, moments, [2])
+    for scan_type, moments in ((2, 3), (5, 1)):
+        print_volume(scan_type, moments, [3])
+    for scan_type, moments in ((0, 3), (1, 1), (3, 2), (4, 3), (6, 1)):
+        print_volume(scan_type, moments, [3, 3, 3])
+    print_refusals()
+
+
+if __name__ == '__main__':
+    main()
