@@ -30,8 +30,13 @@ use Rattle.walk.proofs.Radials.{all-whole}
 use Rattle.walk.proofs.Run.{stays, last-off, enough}
 use Rattle.ask.proofs.Grown.{answers-grow}
 use Rattle.ask.proofs.Sounding.{sound}
-use Rattle.demands.specs.One.{Determined, Ending, is-complete, is-open, is-refused}
-use Rattle.demands.specs.Two.{RefusedExactly, WholeRadials, Codes, Trips}
+use Rattle.writer.proofs.Again.{same-block}
+use Rattle.writer.proofs.Agreeing.{taken-when, keeps}
+use Rattle.writer.proofs.Copying.{copy-of}
+use Rattle.writer.proofs.Runs.{run-back}
+use Rattle.writer.proofs.Told.{puts-same}
+use Rattle.demands.specs.One.{Determined, PutDetermined, Ending, is-complete, is-open, is-refused}
+use Rattle.demands.specs.Two.{RefusedExactly, WholeRadials, Codes, Trips, Writing}
 use Rattle.demands.specs.Three.{DemandThree}
 
 -- ---- demand 1
@@ -58,6 +63,9 @@ reading-one f a b x y =
 
 pub demand-one : Determined
 demand-one = record { verdict = verdict-one; reading = reading-one; gate = told-gate-one; row = λ c codes k h a b k₁ k₂ h₁ h₂ x y. row-one x y }
+
+pub put-determined : PutDetermined
+put-determined = record { put = puts-same }
 
 pub every-file-ends : (f : List ℕ) → Ending f
 unfolding stays verdictTold endingTold
@@ -117,6 +125,16 @@ trips =
       cut-bytes = cut.back-and-there;
       radial-bytes = radial.back-and-there;
       moment-bytes = moment.back-and-there;
+    }
+
+pub writing : Writing
+writing =
+    record {
+      exactly = λ b h w room. taken-when b h w room;
+      keeps = λ b h w room. keeps b h w room;
+      copies = λ f room h k. copy-of f room h k;
+      again = same-block;
+      runs = run-back;
     }
 
 -- ---- demand 3

@@ -12,6 +12,8 @@ use Rattle.gates.specs.Gates.{toldGate}
 use Rattle.gates.specs.Rows.{Rowed}
 use Rattle.walk.specs.declared.reading.Reading.{Reading}
 use Rattle.walk.specs.declared.reading.Verdict.{Verdict}
+use Rattle.writer.specs.declared.order.Put.{Put}
+use Rattle.writer.specs.Put.{Outcome, Puts}
 use Rattle.walk.specs.Reading.{Tells, verdictTold, ending, endingTold}
 
 pub record Determined : Type 0 where
@@ -23,6 +25,10 @@ pub record Determined : Type 0 where
   -- a row has one answer, and leaves one content in each lent buffer
   pub row : (c : Coding) (codes k : List ℕ) (h : List ℤ) (a b : RowAnswer) (k₁ k₂ : List ℕ) (h₁ h₂ : List ℤ) → Rowed c codes k h a k₁ h₁ → Rowed c codes k h b k₂ h₂
       → (a ≡ b) × (k₁ ≡ k₂) × (h₁ ≡ h₂)
+
+-- a put has one answer, one state from then on, and leaves one content in the room
+pub record PutDetermined : Type 0 where
+  pub put : (o : Outcome) (p q : Put) (held other : List ℕ) → Puts o p held → Puts o q other → (p ≡ q) × (held ≡ other)
 
 -- a file has one of the three verdicts: complete, open with the missing bytes, refused with number and place
 pub data Ending (f : List ℕ) : Type 0 where

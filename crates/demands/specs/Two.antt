@@ -26,11 +26,14 @@ use Rattle.gates.specs.Gates.{kindOf, toldOf, differenceOf, floatOf, hundredths
 use Rattle.gates.proofs.Nearest.{Nearest}
 use Rattle.walk.specs.Growth.{bytesOf}
 use Rattle.walk.specs.declared.reading.Stretch.{Stretch}
-use Rattle.walk.specs.Reading.{stretches}
+use Rattle.walk.specs.declared.due.Walk.{Walk}
+use Rattle.walk.specs.Reading.{stop, stretches}
 use Rattle.walk.specs.Tiling.{AllWhole}
 use Rattle.ask.specs.declared.places.Where.the-variants.{At}
 use Rattle.ask.specs.Places.{whereIs}
 use Rattle.ask.specs.Sound.{Sound}
+use Rattle.writer.specs.Block.{Block}
+use Rattle.writer.specs.Trips.{Fits, TakenWhen, Keeps, CopyOf, SameBlock, Run, ReadBack}
 
 -- a block is refused exactly when one of its rules does not hold: fine exactly when each of them does
 pub record RefusedExactly : Type 0 where
@@ -64,3 +67,13 @@ pub record Trips : Type 0 where
   pub cut-bytes : (b : List ℕ) → Bytes b → length b ≡ 256 → cutBytes (cutOf b) ≡ b
   pub radial-bytes : (b : List ℕ) → Bytes b → length b ≡ 64 → radialBytes (radialOf b) ≡ b
   pub moment-bytes : (b : List ℕ) → Bytes b → length b ≡ 32 → momentBytes (momentOf b) ≡ b
+
+-- writing takes a block exactly when state and room agree, reading would take it there, and the room suffices; a block
+-- taken keeps agreement. The blocks that reading accepts, put one after the other, give the same bytes; a block put and read
+-- again is the same block; and what a fresh state and any blocks taken have written is complete, or open at a block's end
+pub record Writing : Type 0 where
+  pub exactly : (b : Block) → Fits b → (w : Walk) (room : List ℕ) → TakenWhen b w room
+  pub keeps : (b : Block) → Fits b → (w : Walk) (room : List ℕ) → Keeps b w room
+  pub copies : (f room : List ℕ) → Bytes f → stop f .at ≤ length room → CopyOf f room
+  pub again : (b : Block) → Fits b → (w : Walk) (room : List ℕ) → SameBlock b w room
+  pub runs : {w : Walk} {room : List ℕ} → Run w room → ReadBack w room

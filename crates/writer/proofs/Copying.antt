@@ -1,0 +1,72 @@
+-- The blocks that reading a file accepts, put one after the other, give the file's bytes again. Assumes nothing.
+use Prim.Native.Nat.{ℕ, zero, suc, _≤_}
+use native.Mathlib.Omega.{arith}
+use mathlib.Core.Path.{_≡_, refl, ap, subst, _∙_}
+use mathlib.Core.List.{List}
+use lib.ListN.{length, take}
+use Rattle.le.specs.Le.{Bytes}
+use Rattle.walk.specs.declared.due.Walk.{Walk}
+use Rattle.walk.specs.declared.step.Step.the-variants.{Took}
+use Rattle.walk.specs.Due.{atStart}
+use Rattle.walk.specs.Reading.{walkOn, last, fuel, stop}
+use Rattle.walk.specs.Step.{stepOf}
+use Rattle.walk.proofs.Run.{Goes, on, off, goes, taken, run-took, run-stays}
+use Rattle.writer.specs.Agree.{written, Agrees}
+use Rattle.writer.specs.Put.{Outcome, put}
+use Rattle.writer.specs.Trips.{blockIn, FromFile, Copies, begun, next, CopyOf}
+use Rattle.writer.proofs.Again.{same-bytes, same-length}
+use Rattle.writer.proofs.Runs.{start}
+
+onward : (k : ℕ) (f : List ℕ) (w : Walk) → w .at ≤ last k f w .at
+unfolding walkOn
+onward zero f w = omega arith
+onward (suc k) f w = go (goes f w) (λ m. onward k f m)
+  where
+    go : Goes f w → ((m : Walk) → m .at ≤ last k f m .at) → w .at ≤ last (suc k) f w .at
+    go (on m e) r = let t = taken f w m e .end in let i = r m in rw (run-took (λ v. v) (λ v n r. r) k f w m e) (omega arith)
+    go (off q) r = rw (run-stays (λ v. v) (λ v n r. r) (suc k) f w q) (omega arith)
+
+module _ (f room : List ℕ) (bytes : Bytes f) where
+  -- a copy up to a walk, and what it holds
+  record Copied (w : Walk) (held : List ℕ) : Type 0 where
+    copies : Copies f room w held
+    agree : Agrees w held
+    same : written w held ≡ take (w .at) f
+    long : length held ≡ length room
+
+  record CopiedTo (w : Walk) : Type 0 where
+    held : List ℕ
+    is : Copied w held
+
+  -- one block more
+  one-more : (w m : Walk) (held : List ℕ) → Copied w held → stepOf f w ≡ Took m → m .at ≤ length room → Copied m (put (blockIn (w .due) f w) w held .room)
+  one-more w m held c e h =
+      let t = taken f w m e .end in
+      let l = c .long in
+      let from : FromFile f w m held = record { bytes = bytes; reads = e; agree = c .agree; same = c .same; suffices = omega arith } in
+      let s = same-bytes f w m held from in
+      let o = s .taken in
+      record {
+        copies = subst (λ (x : Walk). Copies f room x (put (blockIn (w .due) f w) w held .room)) (ap (λ (x : Outcome). x .walk) o) (next (c .copies) (ap (λ (x : Outcome). x .answer) o));
+        agree = s .agree;
+        same = s .bytes;
+        long = same-length f w m held from ∙ l;
+      }
+
+  copy-on : (k : ℕ) (w : Walk) (held : List ℕ) → Copied w held → last k f w .at ≤ length room → CopiedTo (last k f w)
+  unfolding walkOn
+  copy-on zero w held c h = record { held = held; is = c }
+  copy-on (suc k) w held c h = go (goes f w) (λ m. copy-on k m)
+    where
+      go : Goes f w → ((m : Walk) (x : List ℕ) → Copied m x → last k f m .at ≤ length room → CopiedTo (last k f m)) → CopiedTo (last (suc k) f w)
+      go (on m e) r =
+          let q = run-took (λ v. v) (λ v n r. r) k f w m e in
+          let l : last k f m .at ≤ length room = rw q at h in
+          let o = onward k f m in
+          rw q (r m _ (one-more w m held c e (omega arith)) l)
+      go (off q) r = rw (run-stays (λ v. v) (λ v n r. r) (suc k) f w q) (record { held = held; is = c })
+
+  pub copy-of : stop f .at ≤ length room → CopyOf f room
+  copy-of h =
+      let c = copy-on (fuel f) atStart room (record { copies = begun; agree = start room; same = refl; long = refl }) h in
+      record { held = c .held; copies = c .is .copies; agree = c .is .agree; bytes = c .is .same }

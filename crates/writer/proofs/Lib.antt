@@ -1,0 +1,11 @@
+pub mod Again
+pub mod Agreeing
+pub mod Ahead
+pub mod Bytes
+pub mod Copying
+pub mod EachKind
+pub mod Places
+pub mod Putting
+pub mod Runs
+pub mod Same
+pub mod Told

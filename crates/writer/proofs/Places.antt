@@ -1,0 +1,82 @@
+-- Where a walk stands from the start on: past its cuts' blocks where a radial is due. Assumes nothing.
+use Prim.Native.Nat.{ℕ, zero, suc, _+_, _*_, _-_, _≤_}
+use native.Mathlib.Omega.{arith}
+use mathlib.Core.Path.{_≡_, refl, subst}
+use mathlib.Core.Bool.{Bool, true, false}
+use mathlib.Core.List.{List}
+use borrow.Author.Tests.{leb-true, leb-false, ltb-true}
+use lib.Dec.{leb, ltb}
+use lib.ListN.{length}
+use Rattle.walk.specs.declared.due.Due.{Due}
+use Rattle.walk.specs.declared.due.Due.the-variants as due
+use Rattle.walk.specs.declared.due.Walk.{Walk}
+use Rattle.walk.specs.declared.step.Step.the-variants.{Took}
+use Rattle.walk.specs.Due.{dueIf, atStart, cutPlace}
+use Rattle.walk.specs.After.{afterCut, afterData, afterDataIf, closesCut}
+use Rattle.walk.specs.Step.{takeGeneric, takeSite, takeTask, takeCut, takeRadial, takeMoment, takeData, blockAt}
+use Rattle.walk.specs.Reading.{walkOn, last, fuel, stop}
+use Rattle.walk.proofs.Run.{settle-took, took-inj, taken, Goes, on, off, goes, run-took, run-stays}
+
+-- the cuts' blocks: those behind where radials come, and those still to come
+record Behind (w : Walk) : Type 0 where
+  one : 1 ≤ w .count .cut
+  cut : 416 + 256 * w .count .cut ≤ w .at
+  cuts : 416 + 256 * w .plan .cuts ≤ w .at
+
+record Coming (w : Walk) : Type 0 where
+  first : 416 ≤ w .at
+  cuts : 416 + 256 * w .plan .cuts ≤ w .at + 256 * w .rest .todo
+
+unfoldable Far : Due → Walk → Type 0
+Far due.Generic w = Unit {0}
+Far due.Site w = 32 ≤ w .at
+Far due.Task w = 160 ≤ w .at
+Far due.Cut w = Coming w
+Far due.Radial w = Behind w
+Far due.Moment w = Behind w
+Far due.Data w = Behind w
+Far due.Nothing w = Unit {0}
+
+far-cut : (w : Walk) (b : Bool) → leb (w .rest .todo) 1 ≡ b → Coming w → Far (dueIf b due.Radial due.Cut) (afterCut w (w .at + 256))
+unfolding Far dueIf
+far-cut w true e h = let t = leb-true (w .rest .todo) 1 e in record { one = omega arith; cut = omega arith; cuts = omega arith }
+far-cut w false e h = let t = leb-false (w .rest .todo) 1 e in record { first = omega arith; cuts = omega arith }
+
+far-data : (more closes later : Bool) (w : Walk) (end : ℕ) → ltb (w .count .cut) (w .plan .cuts) ≡ later → w .at ≤ end → Behind w
+    → Far (afterDataIf more closes later w end .due) (afterDataIf more closes later w end)
+unfolding Far dueIf
+far-data true closes later w end e l h = record { one = h .one; cut = omega arith; cuts = omega arith }
+far-data false true true w end e l h = let t = ltb-true (w .count .cut) (w .plan .cuts) e in record { one = omega arith; cut = omega arith; cuts = omega arith }
+far-data false true false w end e l h = tt
+far-data false false true w end e l h = record { one = h .one; cut = omega arith; cuts = omega arith }
+far-data false false false w end e l h = record { one = h .one; cut = omega arith; cuts = omega arith }
+
+far-on : (d : Due) (p : List ℕ) (w m : Walk) → Far d w → blockAt d p w ≡ Took m → Far (m .due) m
+unfolding blockAt takeGeneric takeSite takeTask takeCut takeRadial takeMoment takeData afterData Far
+far-on due.Generic p w m h e = subst (λ (x : Walk). Far (x .due) x) (settle-took _ _ _ m e) (omega arith)
+far-on due.Site p w m h e = subst (λ (x : Walk). Far (x .due) x) (settle-took _ _ _ m e) (omega arith)
+far-on due.Task p w m h e = subst (λ (x : Walk). Far (x .due) x) (settle-took _ _ _ m e) (record { first = omega arith; cuts = omega arith })
+far-on due.Cut p w m h e = subst (λ (x : Walk). Far (x .due) x) (settle-took _ _ _ m e) (far-cut w (leb (w .rest .todo) 1) refl h)
+far-on due.Radial p w m h e = subst (λ (x : Walk). Far (x .due) x) (settle-took _ _ _ m e) (record { one = h .one; cut = omega arith; cuts = omega arith })
+far-on due.Moment p w m h e = subst (λ (x : Walk). Far (x .due) x) (settle-took _ _ _ m e) (record { one = h .one; cut = omega arith; cuts = omega arith })
+far-on due.Data p w m h e = subst (λ (x : Walk). Far (x .due) x) (took-inj _ m e) (far-data (ltb 0 (w .rest .todo)) (closesCut w) (ltb (w .count .cut) (w .plan .cuts)) w (w .at + w .rest .length) refl (omega arith) h)
+far-on due.Nothing p w m h e = absurd (let z : _≡_ {A = ℕ} 0 1 = cc in omega arith)
+
+far-last : (k : ℕ) (f : List ℕ) (w : Walk) → Far (w .due) w → Far (last k f w .due) (last k f w)
+unfolding walkOn
+far-last zero f w h = h
+far-last (suc k) f w h = go (goes f w) (λ m. far-last k f m)
+  where
+    go : Goes f w → ((m : Walk) → Far (m .due) m → Far (last k f m .due) (last k f m)) → Far (last (suc k) f w .due) (last (suc k) f w)
+    go (on m e) r = rw (run-took (λ v. v) (λ v n r. r) k f w m e) (r m (far-on (w .due) _ w m h (taken f w m e .block)))
+    go (off q) r = rw (run-stays (λ v. v) (λ v n r. r) (suc k) f w q) h
+
+-- where a radial is due, its cut's block lies in what was read
+pub cut-behind : (f : List ℕ) (w : Walk) → stop f ≡ w → w .due ≡ due.Radial → cutPlace (w .count .cut) + 256 ≤ w .at
+unfolding Far
+cut-behind f w e d =
+    let h : Far (w .due) w = subst (λ (x : Walk). Far (x .due) x) e (far-last (fuel f) f atStart tt) in
+    let b : Behind w = subst (λ (x : Due). Far x w) d h in
+    let o = b .one in
+    let c = b .cut in
+    omega arith

@@ -1,0 +1,82 @@
+-- A block that is offered to the writer: a record of one of the six kinds, or data (document 01, "Blocks" and "Writing").
+use Prim.Native.Nat.{ℕ}
+use mathlib.Core.Bool.{Bool, true}
+use mathlib.Core.List.{List}
+use lib.Dec.{eqb}
+use lib.ListN.{length}
+use Rattle.blocks.specs.declared.cut.Cut.{Cut}
+use Rattle.blocks.specs.declared.generic.Generic.{Generic}
+use Rattle.blocks.specs.declared.moment.Moment.{Moment}
+use Rattle.blocks.specs.declared.radial.Radial.{Radial}
+use Rattle.blocks.specs.declared.site.Site.{Site}
+use Rattle.blocks.specs.declared.task.Task.{Task}
+use Rattle.blocks.specs.Cut.{cutBytes}
+use Rattle.blocks.specs.Generic.{genericBytes}
+use Rattle.blocks.specs.Moment.{momentBytes}
+use Rattle.blocks.specs.Radial.{radialBytes}
+use Rattle.blocks.specs.Site.{siteBytes}
+use Rattle.blocks.specs.Task.{taskBytes}
+use Rattle.walk.specs.declared.due.Due.{Due}
+use Rattle.walk.specs.declared.due.Due.the-variants as due
+use Rattle.walk.specs.declared.due.Walk.{Walk}
+use Rattle.walk.specs.declared.step.Step.{Step}
+use Rattle.walk.specs.Step.{takeGeneric, takeSite, takeTask, takeCut, takeRadial, takeMoment, takeData, cutIn}
+
+-- one of the seven that a volume is made of ("Blocks")
+pub data Block : Type 0 where
+  generic : Generic → Block
+  site : Site → Block
+  task : Task → Block
+  cut : Cut → Block
+  radial : Radial → Block
+  moment : Moment → Block
+  «data» : List ℕ → Block
+
+-- its kind ("Blocks")
+abbrev pub kindOf : Block → Due
+kindOf (generic r) = due.Generic
+kindOf (site r) = due.Site
+kindOf (task r) = due.Task
+kindOf (cut r) = due.Cut
+kindOf (radial r) = due.Radial
+kindOf (moment r) = due.Moment
+kindOf («data» bs) = due.Data
+
+-- what the reader says of it where it is due; a radial's cut stands in what is written ("Writing": the table's checks)
+abbrev pub saysOf : Block → List ℕ → Walk → Step
+saysOf (generic r) room w = takeGeneric r w
+saysOf (site r) room w = takeSite r w
+saysOf (task r) room w = takeTask r w
+saysOf (cut r) room w = takeCut r w
+saysOf (radial r) room w = takeRadial r (cutIn room w) w
+saysOf (moment r) room w = takeMoment r w
+saysOf («data» bs) room w = takeData w
+
+-- whether it has the length that its header said: only data can have another (35)
+abbrev pub fitsOf : Block → Walk → Bool
+fitsOf (generic r) w = true
+fitsOf (site r) w = true
+fitsOf (task r) w = true
+fitsOf (cut r) w = true
+fitsOf (radial r) w = true
+fitsOf (moment r) w = true
+fitsOf («data» bs) w = eqb (length bs) (w .rest .length)
+
+-- how many bytes it has, and which ("Blocks")
+abbrev pub lengthOf : Block → ℕ
+lengthOf (generic r) = 32
+lengthOf (site r) = 128
+lengthOf (task r) = 256
+lengthOf (cut r) = 256
+lengthOf (radial r) = 64
+lengthOf (moment r) = 32
+lengthOf («data» bs) = length bs
+
+abbrev pub bytesOf : Block → List ℕ
+bytesOf (generic r) = genericBytes r
+bytesOf (site r) = siteBytes r
+bytesOf (task r) = taskBytes r
+bytesOf (cut r) = cutBytes r
+bytesOf (radial r) = radialBytes r
+bytesOf (moment r) = momentBytes r
+bytesOf («data» bs) = bs

@@ -1,0 +1,4 @@
+pub mod Agree
+pub mod Block
+pub mod Put
+pub mod Trips

@@ -1,0 +1,89 @@
+// The writer (document 01, "Writing"): one block at a time, onto what a room holds already. Its state is the walk that
+// reading what is written stops at. Each function below believes neither state nor room: it reads what is written first.
+ghost use Rattle.writer.specs.Block.{generic, site, task, cut, radial, moment, «data»};
+ghost use Rattle.writer.specs.Put.{put, Puts};
+
+mod agree;
+pub mod on;
+pub mod order;
+
+use crate::agree::agrees;
+use crate::on::cut_on;
+use crate::on::data_on;
+use crate::on::generic_on;
+use crate::on::moment_on;
+use crate::on::radial_on;
+use crate::on::site_on;
+use crate::on::task_on;
+use crate::order::Put;
+use crate::order::refused;
+use blocks::cut::Cut;
+use blocks::generic::Generic;
+use blocks::moment::Moment;
+use blocks::radial::Radial;
+use blocks::site::Site;
+use blocks::task::Task;
+use walk::due::Walk;
+
+pub fn put_generic(w: Walk, room: &mut [u8], r: Generic) -> Put
+    ensures { λ p. ⌜ Puts (put (generic r) w (now (room .entry))) p (now (room .exit)) ⌝ }
+{
+    if agrees(w, room) {
+        return generic_on(w, room, r);
+    }
+    refused(37, 0, w)
+}
+
+pub fn put_site(w: Walk, room: &mut [u8], r: Site) -> Put
+    ensures { λ p. ⌜ Puts (put (site r) w (now (room .entry))) p (now (room .exit)) ⌝ }
+{
+    if agrees(w, room) {
+        return site_on(w, room, r);
+    }
+    refused(37, 0, w)
+}
+
+pub fn put_task(w: Walk, room: &mut [u8], r: Task) -> Put
+    ensures { λ p. ⌜ Puts (put (task r) w (now (room .entry))) p (now (room .exit)) ⌝ }
+{
+    if agrees(w, room) {
+        return task_on(w, room, r);
+    }
+    refused(37, 0, w)
+}
+
+pub fn put_cut(w: Walk, room: &mut [u8], r: Cut) -> Put
+    ensures { λ p. ⌜ Puts (put (cut r) w (now (room .entry))) p (now (room .exit)) ⌝ }
+{
+    if agrees(w, room) {
+        return cut_on(w, room, r);
+    }
+    refused(37, 0, w)
+}
+
+pub fn put_radial(w: Walk, room: &mut [u8], r: Radial) -> Put
+    ensures { λ p. ⌜ Puts (put (radial r) w (now (room .entry))) p (now (room .exit)) ⌝ }
+{
+    if agrees(w, room) {
+        return radial_on(w, room, r);
+    }
+    refused(37, 0, w)
+}
+
+pub fn put_moment(w: Walk, room: &mut [u8], r: Moment) -> Put
+    ensures { λ p. ⌜ Puts (put (moment r) w (now (room .entry))) p (now (room .exit)) ⌝ }
+{
+    if agrees(w, room) {
+        return moment_on(w, room, r);
+    }
+    refused(37, 0, w)
+}
+
+pub fn put_data(w: Walk, room: &mut [u8], bytes: &[u8]) -> Put
+    ensures { λ p. ⌜ Puts (put («data» (now (bytes .entry))) w (now (room .entry))) p (now (room .exit)) ⌝ }
+{
+    if agrees(w, room) {
+        return data_on(w, room, bytes);
+    }
+    refused(37, 0, w)
+}
