@@ -1,0 +1,100 @@
+// Asks of the volume on standard input, and of shortened and damaged copies of it, what is told of radials, moments,
+// gates, rows and tallies (document 01, "What reading tells"), and prints the answers. The places named below are those
+// of the volume `rich` of tools/volumes.py, of 2,330 bytes, eight radials and three cuts.
+ghost use Prim.Native.Nat.{_<_};
+
+mod gates_told;
+mod lines;
+mod print;
+mod rows_told;
+
+use crate::lines::Question;
+use crate::print::newline;
+use crate::print::number;
+use crate::print::word;
+use libc::STDIN_FILENO;
+use walk::reading;
+
+// The sequence numbers asked are those below this: to one past the last whole radial, and at most to 9.
+fn end_of(radials: usize) -> u32 {
+    if radials < 8 { radials as u32 + 2 } else { 10 }
+}
+
+fn section(label: &[u8], file: &[u8]) {
+    let r = reading::read(file);
+    let end = end_of(r.radials);
+    word(label);
+    word(b": bytes");
+    number(file.len() as u64);
+    word(b", whole radials");
+    number(r.radials as u64);
+    newline();
+    lines::print_radials(file, end);
+    lines::print_lines(file, Question::Moments, end);
+    lines::print_lines(file, Question::Gates, end);
+    lines::print_lines(file, Question::Rows, end);
+    lines::print_lines(file, Question::Tallies, 5);
+}
+
+// Every gate of a radial of each cut, and gates of a radial and of a moment that are not there.
+fn each_gate(file: &[u8]) {
+    gates_told::print_each(file, 1, 1);
+    gates_told::print_each(file, 1, 2);
+    gates_told::print_each(file, 1, 3);
+    gates_told::print_each(file, 4, 64);
+    gates_told::print_each(file, 4, 63);
+    gates_told::print_each(file, 8, 4);
+    gates_told::print_each(file, 0, 1);
+    gates_told::print_each(file, 9, 1);
+    gates_told::print_each(file, 1, 4);
+}
+
+// The moment of type 2 in radial 1 has 13 gates. The last two show that 30 and 31 come before 33.
+fn short_rooms(file: &[u8]) {
+    rows_told::print_lent(file, 1, 2, 13, 13);
+    rows_told::print_lent(file, 1, 2, 12, 13);
+    rows_told::print_lent(file, 1, 2, 13, 12);
+    rows_told::print_lent(file, 1, 2, 0, 0);
+    rows_told::print_lent(file, 9, 2, 0, 0);
+    rows_told::print_lent(file, 1, 4, 0, 0);
+}
+
+// The first n bytes, or all where there are fewer.
+fn first(file: &[u8], n: usize) -> &[u8] {
+    if n < file.len() {
+        return &file[..n];
+    }
+    file
+}
+
+fn prefixes(file: &[u8]) {
+    section(b"one byte short", first(file, 2329));
+    section(b"cut in radial 3", first(file, 1600));
+    section(b"cut in the second cut block", first(file, 800));
+    section(b"empty", first(file, 0));
+}
+
+// The file with another byte at a place, which holds the old one again afterwards.
+fn damaged(label: &[u8], buf: &mut [u8; 65536], n: usize, place: usize, value: u8)
+    requires { ⌜ place < 65536 ⌝ }
+{
+    let old = buf[place];
+    buf[place] = value;
+    section(label, first(buf, n));
+    buf[place] = old;
+}
+
+fn main() {
+    let mut buf = io::large_buffer();
+    let n = io::read_full(STDIN_FILENO, &mut buf);
+    let file = first(&buf, n);
+    section(b"whole", file);
+    each_gate(file);
+    short_rooms(file);
+    prefixes(file);
+    damaged(b"bad state in radial 7", &mut buf, n, 2097, 9);
+    damaged(b"bad type in radial 3", &mut buf, n, 1664, 2);
+    damaged(b"bad magic", &mut buf, n, 0, 0);
+    damaged(b"bad process mode in cut 3", &mut buf, n, 928, 0);
+    damaged(b"another scale in radial 1", &mut buf, n, 1252, 7);
+}
