@@ -1,0 +1,7 @@
+pub mod Same
+pub mod Walked
+pub mod Sections
+pub mod Agree
+pub mod Filled
+pub mod Entries
+pub mod Layouts

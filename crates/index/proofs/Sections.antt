@@ -1,0 +1,205 @@
+-- What stands where in an index, and what is still to come of it while its two sections grow side by side. Assumes nothing.
+use Prim.Native.Nat.{ℕ, zero, suc, _+_, _*_, _-_, _<_, _≤_}
+use native.Mathlib.Nat.{zero-add, add-zero}
+use native.Mathlib.Numerals.{add-one}
+use native.Mathlib.Omega.{arith}
+use mathlib.Core.Bool.{false}
+use mathlib.Core.List.{List, [], _∷_, _++_, append-assoc}
+use mathlib.Core.Logic.{_⊎_, inl, inr}
+use mathlib.Core.Path.{_≡_, refl, sym, ap, ap₂, _∙_}
+use borrow.Author.Tests.{eq-eqb, ne-eqb}
+use lib.ListN.{length, getD, drop, length-append}
+use lib.Seq.{drop-at, drop-append-seam, drop-drop, getD-drop}
+use Rattle.le.specs.Le.{bytes, part, run}
+use Rattle.le.proofs.Laws.{length-bytes, length-run, part-same, part-in, part-all}
+use Rattle.walk.specs.declared.reading.Stretch.{Stretch}
+use Rattle.index.specs.Index.{radialsIn, perCut, startOf, cutSection, placeOf, radialSection, indexFor}
+use Rattle.index.specs.Answer.{same}
+use Rattle.index.specs.Making.{secondAt}
+use Rattle.index.proofs.Same.{not-same}
+use Rattle.index.proofs.Walked.{Rising, rising-from, rising-none}
+
+-- ---- an entry, where it is the next of what is to come
+
+pub entry-is : (f : List ℕ) (at k : ℕ) (x y : List ℕ) → drop at f ≡ x ++ y → length x ≡ k → part k f at ≡ x
+entry-is f at k x y e l =
+    part-same k f (x ++ y) at 0 (λ i h. rw (zero-add i) (sym (getD-drop at f i 0) ∙ ap (λ (g : List ℕ). getD g i 0) e))
+    ∙ part-in k x y 0 (omega arith) ∙ part-all k x l
+
+entry-past : (f : List ℕ) (at k : ℕ) (x y : List ℕ) → drop at f ≡ x ++ y → length x ≡ k → drop (at + k) f ≡ y
+entry-past f at k x y e l = sym (drop-drop k at f) ∙ ap (drop k) e ∙ drop-at x y k l
+
+-- ---- lengths
+
+length-per-cut : (n cut : ℕ) (ss : List Stretch) → length (perCut n cut ss) ≡ n
+unfolding perCut
+length-per-cut zero cut ss = refl
+length-per-cut (suc n) cut ss = ap suc (length-per-cut n (suc cut) ss)
+
+pub length-start : (cuts : ℕ) → length (startOf cuts) ≡ 1
+unfolding startOf
+length-start cuts = length-bytes 1 cuts
+
+length-place : (s : Stretch) → length (placeOf s) ≡ 8
+unfolding placeOf
+length-place s = length-bytes 8 (s .start)
+
+length-cuts : (cuts : ℕ) (ss : List Stretch) → length (cutSection cuts ss) ≡ secondAt cuts
+unfolding cutSection
+length-cuts cuts ss =
+    length-append (startOf cuts) (run (bytes 2) (perCut cuts 1 ss))
+    ∙ ap (λ (n : ℕ). length (startOf cuts) + n) (length-run (bytes 2) 2 (length-bytes 2) (perCut cuts 1 ss) ∙ ap (λ (n : ℕ). 2 * n) (length-per-cut cuts 1 ss))
+
+pub length-index : (cuts : ℕ) (ss : List Stretch) → length (indexFor cuts ss) ≡ secondAt cuts + 4 + 8 * length ss
+unfolding indexFor radialSection
+length-index cuts ss =
+    let c = length-cuts cuts ss in
+    let b = length-bytes 4 (length ss) in
+    let r = length-run placeOf 8 length-place ss in
+    simp length-append (omega arith)
+
+-- ---- counts still to come: the first of n cuts has had some radials already
+
+unfoldable pub owed : ℕ → ℕ → ℕ → List Stretch → List ℕ
+owed zero cut count ss = []
+owed (suc n) cut count ss = (count + radialsIn cut ss) ∷ perCut n (suc cut) ss
+
+owed-new : (n cut : ℕ) (ss : List Stretch) → owed n cut 0 ss ≡ perCut n cut ss
+unfolding owed perCut
+owed-new zero cut ss = refl
+owed-new (suc n) cut ss = ap (λ (k : ℕ). k ∷ perCut n (suc cut) ss) (zero-add (radialsIn cut ss))
+
+-- a radial of a lower cut does not count
+per-cut-skip : (n cut : ℕ) (s : Stretch) (ss : List Stretch) → s .cut < cut → perCut n cut (s ∷ ss) ≡ perCut n cut ss
+unfolding perCut radialsIn
+per-cut-skip zero cut s ss h = refl
+per-cut-skip (suc n) cut s ss h =
+    rw (ne-eqb (s .cut) cut (λ e. omega arith), zero-add (radialsIn cut ss)) (ap (λ (l : List ℕ). radialsIn cut ss ∷ l) (per-cut-skip n (suc cut) s ss (omega arith)))
+
+owed-one : (n cut count : ℕ) (s : Stretch) (ss : List Stretch) → s .cut ≡ cut → owed n cut count (s ∷ ss) ≡ owed n cut (count + 1) ss
+unfolding owed radialsIn
+owed-one zero cut count s ss e = refl
+owed-one (suc n) cut count s ss e =
+    ap₂ (λ (k : ℕ) (l : List ℕ). k ∷ l) (rw (eq-eqb (s .cut) cut e) (omega arith)) (per-cut-skip n (suc cut) s ss (omega arith))
+
+owed-end : (n cut count other : ℕ) (ss ts : List Stretch) → n ≡ 0 → owed n cut count ss ≡ owed n cut other ts
+unfolding owed
+owed-end n cut count other ss ts e = rw e
+
+-- ---- the making of an index, where its next count goes to `first` and its next place to `second`
+
+module _ (cuts : ℕ) (ss : List Stretch) where
+  pub record Making (first second cut count : ℕ) (rest : List Stretch) : Type 0 where
+    pub counts : drop first (indexFor cuts ss) ≡ run (bytes 2) (owed (suc cuts - cut) cut count rest) ++ radialSection ss
+    pub places : drop second (indexFor cuts ss) ≡ run placeOf rest
+    pub low : first + 2 * (suc cuts - cut) ≡ secondAt cuts
+    pub high : second + 8 * length rest ≡ length (indexFor cuts ss)
+    pub rises : Rising cut rest
+    pub few : count ≤ second
+
+  -- what follows the start, and what follows the first section
+  start-drop : drop (length (startOf cuts)) (indexFor cuts ss) ≡ run (bytes 2) (perCut cuts 1 ss) ++ radialSection ss
+  unfolding indexFor cutSection
+  start-drop =
+      rw (append-assoc (startOf cuts) (run (bytes 2) (perCut cuts 1 ss)) (radialSection ss))
+      (drop-append-seam (startOf cuts) (run (bytes 2) (perCut cuts 1 ss) ++ radialSection ss))
+
+  second-drop : drop (secondAt cuts) (indexFor cuts ss) ≡ bytes 4 (length ss) ++ run placeOf ss
+  unfolding indexFor radialSection
+  second-drop = drop-at (cutSection cuts ss) (radialSection ss) (secondAt cuts) (length-cuts cuts ss)
+
+  -- the counts with which the sections start
+  pub start-here : part (length (startOf cuts)) (indexFor cuts ss) 0 ≡ startOf cuts
+  unfolding indexFor cutSection
+  start-here =
+      entry-is (indexFor cuts ss) 0 (length (startOf cuts)) (startOf cuts) (run (bytes 2) (perCut cuts 1 ss) ++ radialSection ss)
+      (append-assoc (startOf cuts) (run (bytes 2) (perCut cuts 1 ss)) (radialSection ss)) refl
+
+  -- a start that is the index's, and one that is another: it is one byte
+  pub start-stands : (x : List ℕ) → getD x 0 0 ≡ getD (startOf cuts) 0 0 → part (length (startOf cuts)) x 0 ≡ part (length (startOf cuts)) (indexFor cuts ss) 0
+  unfolding startOf bytes part
+  start-stands x e = ap (λ (n : ℕ). n ∷ []) e ∙ sym start-here
+
+  pub start-differs : (x : List ℕ) → (getD x 0 0 ≡ getD (startOf cuts) 0 0 → ⊥) → same (indexFor cuts ss) x ≡ false
+  unfolding startOf bytes part
+  start-differs x n = not-same (indexFor cuts ss) x (λ q. n (ap (λ (f : List ℕ). getD f 0 0) (sym q) ∙ ap (λ (f : List ℕ). getD f 0 0) start-here))
+
+  pub radials-here : part 4 (indexFor cuts ss) (secondAt cuts) ≡ bytes 4 (length ss)
+  radials-here = entry-is (indexFor cuts ss) (secondAt cuts) 4 (bytes 4 (length ss)) (run placeOf ss) second-drop (length-bytes 4 (length ss))
+
+  -- before the first entry
+  pub making : Rising 1 ss → Making (length (startOf cuts)) (secondAt cuts + 4) 1 0 ss
+  making r =
+      let n : suc cuts - 1 ≡ cuts = omega arith in
+      record {
+        counts = start-drop ∙ ap (λ (l : List ℕ). run (bytes 2) l ++ radialSection ss) (sym (rw n (owed-new cuts 1 ss)));
+        places = entry-past (indexFor cuts ss) (secondAt cuts) 4 (bytes 4 (length ss)) (run placeOf ss) second-drop (length-bytes 4 (length ss));
+        low = omega arith;
+        high = sym (length-index cuts ss);
+        rises = r;
+        few = omega arith;
+      }
+
+  -- a cut that has no further radial: its count, and the next cut
+  pub record Counted (first second cut count : ℕ) (rest : List Stretch) : Type 0 where
+    pub entry : part 2 (indexFor cuts ss) first ≡ bytes 2 count
+    pub room : first + 2 ≤ secondAt cuts
+    pub then : Making (first + 2) second (cut + 1) 0 rest
+
+  pub counted : (first second cut count : ℕ) (rest : List Stretch) → Making first second cut count rest → cut ≤ cuts → Rising (cut + 1) rest
+      → Counted first second cut count rest
+  unfolding owed run
+  counted first second cut count rest m h r =
+      let n : suc cuts - cut ≡ suc (cuts - cut) = omega arith in
+      let n1 : suc cuts - (cut + 1) ≡ cuts - cut = omega arith in
+      let none = rising-none cut (cut + 1) rest (omega arith) r in
+      let new : owed (suc cuts - (cut + 1)) (cut + 1) 0 rest ≡ perCut (cuts - cut) (suc cut) rest = rw (n1, add-one cut) (owed-new (cuts - cut) (suc cut) rest) in
+      let l = m .low in
+      let e : drop first (indexFor cuts ss) ≡ bytes 2 count ++ (run (bytes 2) (perCut (cuts - cut) (suc cut) rest) ++ radialSection ss) =
+      m .counts ∙ rw (n, none, add-zero count) (append-assoc (bytes 2 count) (run (bytes 2) (perCut (cuts - cut) (suc cut) rest)) (radialSection ss)) in
+      record {
+        entry = entry-is (indexFor cuts ss) first 2 (bytes 2 count) _ e (length-bytes 2 count);
+        room = omega arith;
+        then =
+            record {
+              counts =
+                  entry-past (indexFor cuts ss) first 2 (bytes 2 count) _ e (length-bytes 2 count)
+                  ∙ ap (λ (l : List ℕ). run (bytes 2) l ++ radialSection ss) (sym new);
+              places = m .places;
+              low = omega arith;
+              high = m .high;
+              rises = r;
+              few = omega arith;
+            };
+      }
+
+  -- a radial of the present cut, or one after all counts: its place, and the next radial
+  pub record Placed (first second cut count : ℕ) (s : Stretch) (rest : List Stretch) : Type 0 where
+    pub entry : part 8 (indexFor cuts ss) second ≡ bytes 8 (s .start)
+    pub room : second + 8 ≤ length (indexFor cuts ss)
+    pub then : Making first (second + 8) cut (count + 1) rest
+
+  pub placed : (first second cut count : ℕ) (s : Stretch) (rest : List Stretch) → Making first second cut count (s ∷ rest) → (cuts < cut) ⊎ (s .cut ≤ cut)
+      → Placed first second cut count s rest
+  unfolding Rising run placeOf
+  placed first second cut count s rest m h =
+      let up = m .rises .0 in
+      let l = m .high in
+      let f = m .few in
+      record {
+        entry = entry-is (indexFor cuts ss) second 8 (bytes 8 (s .start)) (run placeOf rest) (m .places) (length-bytes 8 (s .start));
+        room = omega arith;
+        then =
+            record {
+              counts = m .counts ∙ ap (λ (l : List ℕ). run (bytes 2) l ++ radialSection ss) (fewer h);
+              places = entry-past (indexFor cuts ss) second 8 (bytes 8 (s .start)) (run placeOf rest) (m .places) (length-bytes 8 (s .start));
+              low = m .low;
+              high = omega arith;
+              rises = rising-from cut (s .cut) rest up (m .rises .1);
+              few = omega arith;
+            };
+      }
+    where
+      fewer : (cuts < cut) ⊎ (s .cut ≤ cut) → owed (suc cuts - cut) cut count (s ∷ rest) ≡ owed (suc cuts - cut) cut (count + 1) rest
+      fewer (inl over) = owed-end _ cut count (count + 1) (s ∷ rest) rest (omega arith)
+      fewer (inr h) = let up = m .rises .0 in owed-one (suc cuts - cut) cut count s rest (omega arith)

@@ -1,0 +1,13 @@
+use mathlib.Core.Path.{refl}
+use borrow.Author.Needs.{needs}
+use Rattle.le.specs.Le.{bytes}
+use Rattle.index.specs.Index.{startOf}
+use Rattle.index.proofs.making.start.Statement.{statement}
+use Rattle.index.proofs.making.start.Tie as tie
+
+returns : tie.Need-returns
+unfolding startOf bytes
+returns c = refl
+
+pub start-spec : {M : Type 1} → statement M
+start-spec = tie.close (tie.spec (λ c. search needs) returns)

@@ -1,0 +1,153 @@
+// An index made in one pass over the whole radials. They come cut by cut, so the two sections grow side by side: a radial's
+// place goes into the second, and once a cut has no further radial its count goes into the first. One loop puts the
+// entries into a room, the other compares them with an index.
+ghost use mathlib.Core.Path.{_≡_};
+ghost use Prim.Native.Nat.{_%_, _≤_};
+ghost use lib.ListN.{length};
+ghost use Rattle.le.specs.Le.{patch};
+ghost use Rattle.walk.specs.Reading.{stretches};
+ghost use Rattle.index.specs.Answer.{same};
+ghost use Rattle.index.specs.Index.{startOf, indexFor};
+ghost use Rattle.index.specs.Making.{secondAt, entryOf};
+use walk::due::Walk;
+use walk::reading;
+use walk::reading::Onward;
+use walk::reading::Stretch;
+
+enum Entry {
+    // The count of a cut that has no further radial.
+    Count,
+    // The place of a radial, and the walk after it.
+    Place(Stretch, Walk),
+    // No further entry.
+    End,
+}
+
+// Which entry is due, by what comes next in the file and by the cut that is being counted.
+fn entry_due(next: Onward, cut: usize, cuts: u32) -> Entry
+    ensures { λ r. ⌜ r ≡ entryOf next cut cuts ⌝ }
+{
+    match next {
+        Onward::Whole(s, n) => {
+            if (cuts as usize) < cut {
+                return Entry::Place(s, n);
+            }
+            if cut < s.cut as usize {
+                return Entry::Count;
+            }
+            Entry::Place(s, n)
+        }
+        Onward::Stopped(_) => {
+            if (cuts as usize) < cut {
+                return Entry::End;
+            }
+            Entry::Count
+        }
+    }
+}
+
+// How long the start of an index is, and its bytes.
+const START: usize = 1;
+
+fn start(cuts: u32) -> [u8; 1]
+    ensures { λ r. ⌜ r ≡ startOf cuts ⌝ }
+{
+    [(cuts % 256) as u8]
+}
+
+// Where the second section starts.
+pub(crate) fn second_at(cuts: u32) -> usize
+    ensures { λ r. ⌜ r ≡ secondAt cuts ⌝ }
+{
+    START + 2 * (cuts as usize)
+}
+
+// A count in 2 bytes, and in 4.
+fn half(count: usize) -> u16
+    ensures { λ r. ⌜ r ≡ count % 65536 ⌝ }
+{
+    (count % 65536) as u16
+}
+
+fn word(count: usize) -> u32
+    ensures { λ r. ⌜ r ≡ count % 4294967296 ⌝ }
+{
+    (count % 4294967296) as u32
+}
+
+pub(crate) fn put(file: &[u8], room: &mut [u8], cuts: u32, radials: usize)
+    requires { ⌜ radials ≡ length (stretches (now file)) ⌝ }
+    requires { ⌜ length (indexFor cuts (stretches (now file))) ≤ length (now room) ⌝ }
+    ensures { λ _. ⌜ now (room .exit) ≡ patch (now (room .entry)) 0 (indexFor cuts (stretches (now (file .entry)))) ⌝ }
+{
+    le::put(room, 0, &start(cuts));
+    let mut first = START;
+    let mut second = second_at(cuts);
+    le::put_u32(room, second, word(radials));
+    second += 4;
+    let mut cut = 1;
+    let mut count = 0;
+    let mut next = reading::advance(file, Walk::begin());
+    loop {
+        match entry_due(next, cut, cuts) {
+            Entry::Count => {
+                le::put_u16(room, first, half(count));
+                first += 2;
+                cut += 1;
+                count = 0;
+            }
+            Entry::Place(s, n) => {
+                le::put_u64(room, second, s.start as u64);
+                second += 8;
+                count += 1;
+                next = reading::advance(file, n);
+            }
+            Entry::End => {
+                return;
+            }
+        }
+    }
+}
+
+pub(crate) fn stands(file: &[u8], index: &[u8], cuts: u32, radials: usize) -> bool
+    requires { ⌜ radials ≡ length (stretches (now file)) ⌝ }
+    requires { ⌜ length (now index) ≡ length (indexFor cuts (stretches (now file))) ⌝ }
+    ensures { λ r. ⌜ r ≡ same (indexFor cuts (stretches (now (file .entry)))) (now (index .entry)) ⌝ }
+{
+    let start = start(cuts);
+    if index[0] != start[0] {
+        return false;
+    }
+    let mut first = START;
+    let mut second = second_at(cuts);
+    if le::u32_at(index, second) != word(radials) {
+        return false;
+    }
+    second += 4;
+    let mut cut = 1;
+    let mut count = 0;
+    let mut next = reading::advance(file, Walk::begin());
+    loop {
+        match entry_due(next, cut, cuts) {
+            Entry::Count => {
+                if le::u16_at(index, first) != half(count) {
+                    return false;
+                }
+                first += 2;
+                cut += 1;
+                count = 0;
+            }
+            Entry::Place(s, n) => {
+                if le::u64_at(index, second) != s.start as u64 {
+                    return false;
+                }
+                second += 8;
+                count += 1;
+                next = reading::advance(file, n);
+            }
+            Entry::End => {
+                return true;
+            }
+        }
+    }
+}
