@@ -94,7 +94,10 @@ def print_refusals():
     put('34, a radial before all else', 1000, 0, 'radial', opening)
     many = spec(0, 1, [2])
     many['task']['cut number'] = 51
-    put('8, 51 cuts', 1000, 160, 'task', volumes.build(many)[160:416])
+    task = volumes.build(many)[160:416]
+    put('34 ahead of 8, 51 cuts before all else', 1000, 0, 'task', task)
+    put('8, 51 cuts', 1000, 160, 'task', task)
+    put('8 ahead of 33, 51 cuts in a room of 160 bytes', 160, 160, 'task', task)
     put('35, three bytes of four', 1000, 768, 'data', b'\5\6\7')
     put('33, a room of 735 bytes', 735, 672, 'radial', opening)
     put('37, more bytes than the room has', 1000, 672, 'radial', opening, 1001)

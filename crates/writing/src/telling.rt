@@ -1,0 +1,108 @@
+// What the program prints.
+use libc::STDOUT_FILENO;
+use walk::due::Walk;
+use walk::reading;
+use walk::reading::Verdict;
+use writer::order::Answer;
+use writer::order::Put;
+
+pub fn word(text: &[u8]) {
+    io::write_all(STDOUT_FILENO, text);
+}
+
+pub fn number(n: u64) {
+    word(b" ");
+    io::print_decimal(STDOUT_FILENO, n);
+}
+
+pub fn yes(b: bool) {
+    if b {
+        word(b" yes");
+    } else {
+        word(b" no");
+    }
+}
+
+// The first n bytes, or all where there are fewer.
+pub fn first(s: &[u8], n: usize) -> &[u8] {
+    if n <= s.len() {
+        return &s[0..n];
+    }
+    s
+}
+
+fn mixed(sum: u32, byte: u8) -> u32 {
+    ((31 * (sum as u64) + (byte as u64)) % 4294967296) as u32
+}
+
+// The bytes of a room in one number, which a change of any one byte changes.
+pub fn sum(s: &[u8]) -> u32 {
+    let mut n = 0;
+    let mut i = 0;
+    while i < s.len() {
+        n = mixed(n, s[i]);
+        i += 1;
+    }
+    n
+}
+
+fn print_byte(byte: u8) {
+    io::print_hex(STDOUT_FILENO, byte as u64, 2);
+}
+
+pub fn print_bytes(s: &[u8]) {
+    let mut i = 0;
+    while i < s.len() {
+        print_byte(s[i]);
+        i += 1;
+    }
+}
+
+// What reading tells of a file.
+pub fn print_reading(file: &[u8]) {
+    let r = reading::read(file);
+    let verdict = r.verdict;
+    match verdict {
+        Verdict::Complete => {
+            word(b" complete");
+        }
+        Verdict::Open(missing) => {
+            word(b" open");
+            number(missing as u64);
+        }
+        Verdict::Refused(n, place) => {
+            print_refused(n, place);
+        }
+    }
+    number(r.read as u64);
+    number(r.radials as u64);
+}
+
+pub fn print_refused(n: u32, place: usize) {
+    word(b" refused");
+    number(n as u64);
+    number(place as u64);
+}
+
+// The state that a put leaves. Of an answer only a refusal is printed.
+pub fn onward(p: Put) -> Walk {
+    let answer = p.answer;
+    if let Answer::Refused(n, place) = answer {
+        print_refused(n, place);
+    }
+    p.walk
+}
+
+// What a put that is to be refused answers; then, before and after it, the room's sum and the state's count of bytes.
+pub fn print_put(label: &[u8], w: Walk, before: u32, p: Put, room: &[u8]) {
+    word(label);
+    word(b":");
+    let after = onward(p);
+    word(b", room");
+    number(before as u64);
+    number(sum(room) as u64);
+    word(b", written");
+    number(w.at as u64);
+    number(after.at as u64);
+    word(b"\n");
+}
