@@ -7,9 +7,11 @@ and each refusal of the writer and of the index.
 The stored output was worked out here: the volumes are built whole, from field dictionaries,
 by volumes.py, and what is told of them, their indexes and the refusals come from the reference
 reader and writer, which were written from the document's text alone; nothing in it comes from
-the program. Two lines for each volume:
+the program. For each volume:
 
-    scan type T, moments M: verdict, bytes read, whole radials, room, its checksum
+    scan type T, moments M: verdict, bytes read, whole radials
+    the listing's lines of radials and moments
+    room, its checksum
     index LENGTH BYTES, whether it is right, whether it is with one byte changed
 
 M says which moments each radial has: 1 one of one-byte gates, 2 one of two-byte gates, 3 both.
@@ -66,7 +68,9 @@ def print_volume(scan_type, moments, counts):
     data = volumes.build(spec(scan_type, moments, counts))
     r = ref.read(data)
     print(f'scan type {scan_type}, moments {moments}: {told(r.verdict)} {r.bytes_read} '
-          f'{len(r.radials)}, room {checksum(room_of(2500, data))}')
+          f'{len(r.radials)}')
+    print(*ref.listing(data).splitlines()[1:], sep='\n')
+    print(f'room {checksum(room_of(2500, data))}')
     index = ref.index(data)
     changed = index[:22] + b'\xff' + index[23:]
     print(f'index {len(index)} {index.hex()} {yes(ref.index_right(data, index))} '

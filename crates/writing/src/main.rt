@@ -6,18 +6,18 @@ mod telling;
 mod volumes;
 
 use crate::telling::first;
-use crate::telling::number;
 use crate::telling::print_bytes;
-use crate::telling::print_reading;
 use crate::telling::sum;
-use crate::telling::word;
 use crate::telling::yes;
 use crate::volumes::put_cut;
 use crate::volumes::put_front;
 use crate::volumes::put_pair;
 use crate::volumes::put_radials;
 use index::Answer;
+use printing::number;
+use printing::word;
 use walk::due::Walk;
+use walk::reading;
 
 // The index of a file, whether it is right, and whether it is with one byte changed.
 fn print_index(file: &[u8]) {
@@ -49,8 +49,9 @@ fn print_volume(scan_type: u32, moments: u8, room: &[u8], w: Walk) {
     number(moments as u64);
     word(b":");
     let file = first(room, w.at);
-    print_reading(file);
-    word(b", room");
+    printing::print_reading(reading::read(file));
+    printing::print_lines(file);
+    word(b"room");
     number(sum(room) as u64);
     word(b"\n");
     print_index(file);

@@ -2,16 +2,16 @@
 use crate::records;
 use crate::records::Facts;
 use crate::telling::first;
-use crate::telling::number;
 use crate::telling::onward;
 use crate::telling::print_put;
 use crate::telling::sum;
-use crate::telling::word;
 use crate::volumes::put_front;
 use crate::volumes::put_pair;
 use crate::volumes::put_start;
 use blocks::radial::Radial;
 use index::Answer;
+use printing::number;
+use printing::word;
 use walk::due::Walk;
 
 // The first radial of a volume, with one moment of one-byte gates.

@@ -1,19 +1,11 @@
 // What the program prints.
 use libc::STDOUT_FILENO;
+use printing::number;
+use printing::print_refused;
+use printing::word;
 use walk::due::Walk;
-use walk::reading;
-use walk::reading::Verdict;
 use writer::order::Answer;
 use writer::order::Put;
-
-pub fn word(text: &[u8]) {
-    io::write_all(STDOUT_FILENO, text);
-}
-
-pub fn number(n: u64) {
-    word(b" ");
-    io::print_decimal(STDOUT_FILENO, n);
-}
 
 pub fn yes(b: bool) {
     if b {
@@ -56,32 +48,6 @@ pub fn print_bytes(s: &[u8]) {
         print_byte(s[i]);
         i += 1;
     }
-}
-
-// What reading tells of a file.
-pub fn print_reading(file: &[u8]) {
-    let r = reading::read(file);
-    let verdict = r.verdict;
-    match verdict {
-        Verdict::Complete => {
-            word(b" complete");
-        }
-        Verdict::Open(missing) => {
-            word(b" open");
-            number(missing as u64);
-        }
-        Verdict::Refused(n, place) => {
-            print_refused(n, place);
-        }
-    }
-    number(r.read as u64);
-    number(r.radials as u64);
-}
-
-pub fn print_refused(n: u32, place: usize) {
-    word(b" refused");
-    number(n as u64);
-    number(place as u64);
 }
 
 // The state that a put leaves. Of an answer only a refusal is printed.

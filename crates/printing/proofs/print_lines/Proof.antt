@@ -3,8 +3,8 @@ use mathlib.Core.Path.{sym, _∙_}
 use borrow.Author.Needs.{needs}
 use lib.ListN.{length}
 use Rattle.listing.proofs.Laws.{linesAt, line-fewer}
-use Rattle.list.proofs.print_lines.Statement.{statement}
-use Rattle.list.proofs.print_lines.Tie as tie
+use Rattle.printing.proofs.print_lines.Statement.{statement}
+use Rattle.printing.proofs.print_lines.Tie as tie
 
 abbrev Inv-loop : tie.InvT-loop
 Inv-loop file c₀ c = Unit {0}
