@@ -13,7 +13,7 @@ use lib.Seq.{drop-at, drop-append-seam, drop-drop, getD-drop}
 use Rattle.le.specs.Le.{bytes, part, run}
 use Rattle.le.proofs.Laws.{length-bytes, length-run, part-same, part-in, part-all}
 use Rattle.walk.specs.declared.reading.Stretch.{Stretch}
-use Rattle.index.specs.Index.{radialsIn, perCut, startOf, cutSection, placeOf, radialSection, indexFor}
+use Rattle.index.specs.Index.{radialsIn, perCut, startOf, countOf, cutSection, placeOf, radialSection, indexFor}
 use Rattle.index.specs.Answer.{same}
 use Rattle.index.specs.Making.{secondAt}
 use Rattle.index.proofs.Same.{not-same}
@@ -21,7 +21,7 @@ use Rattle.index.proofs.Walked.{Rising, rising-from, rising-none}
 
 -- ---- an entry, where it is the next of what is to come
 
-pub entry-is : (f : List ℕ) (at k : ℕ) (x y : List ℕ) → drop at f ≡ x ++ y → length x ≡ k → part k f at ≡ x
+entry-is : (f : List ℕ) (at k : ℕ) (x y : List ℕ) → drop at f ≡ x ++ y → length x ≡ k → part k f at ≡ x
 entry-is f at k x y e l =
     part-same k f (x ++ y) at 0 (λ i h. rw (zero-add i) (sym (getD-drop at f i 0) ∙ ap (λ (g : List ℕ). getD g i 0) e))
     ∙ part-in k x y 0 (omega arith) ∙ part-all k x l
@@ -40,15 +40,19 @@ pub length-start : (cuts : ℕ) → length (startOf cuts) ≡ 1
 unfolding startOf
 length-start cuts = length-bytes 1 cuts
 
+length-count : (n : ℕ) → length (countOf n) ≡ 2
+unfolding countOf bytes
+length-count n = refl
+
 length-place : (s : Stretch) → length (placeOf s) ≡ 8
-unfolding placeOf
-length-place s = length-bytes 8 (s .start)
+unfolding placeOf bytes
+length-place s = refl
 
 length-cuts : (cuts : ℕ) (ss : List Stretch) → length (cutSection cuts ss) ≡ secondAt cuts
 unfolding cutSection
 length-cuts cuts ss =
-    length-append (startOf cuts) (run (bytes 2) (perCut cuts 1 ss))
-    ∙ ap (λ (n : ℕ). length (startOf cuts) + n) (length-run (bytes 2) 2 (length-bytes 2) (perCut cuts 1 ss) ∙ ap (λ (n : ℕ). 2 * n) (length-per-cut cuts 1 ss))
+    length-append (startOf cuts) (run countOf (perCut cuts 1 ss))
+    ∙ ap (λ (n : ℕ). length (startOf cuts) + n) (length-run countOf 2 length-count (perCut cuts 1 ss) ∙ ap (λ (n : ℕ). 2 * n) (length-per-cut cuts 1 ss))
 
 pub length-index : (cuts : ℕ) (ss : List Stretch) → length (indexFor cuts ss) ≡ secondAt cuts + 4 + 8 * length ss
 unfolding indexFor radialSection
@@ -90,7 +94,7 @@ owed-end n cut count other ss ts e = rw e
 
 module _ (cuts : ℕ) (ss : List Stretch) where
   pub record Making (first second cut count : ℕ) (rest : List Stretch) : Type 0 where
-    pub counts : drop first (indexFor cuts ss) ≡ run (bytes 2) (owed (suc cuts - cut) cut count rest) ++ radialSection ss
+    pub counts : drop first (indexFor cuts ss) ≡ run countOf (owed (suc cuts - cut) cut count rest) ++ radialSection ss
     pub places : drop second (indexFor cuts ss) ≡ run placeOf rest
     pub low : first + 2 * (suc cuts - cut) ≡ secondAt cuts
     pub high : second + 8 * length rest ≡ length (indexFor cuts ss)
@@ -98,11 +102,11 @@ module _ (cuts : ℕ) (ss : List Stretch) where
     pub few : count ≤ second
 
   -- what follows the start, and what follows the first section
-  start-drop : drop (length (startOf cuts)) (indexFor cuts ss) ≡ run (bytes 2) (perCut cuts 1 ss) ++ radialSection ss
+  start-drop : drop (length (startOf cuts)) (indexFor cuts ss) ≡ run countOf (perCut cuts 1 ss) ++ radialSection ss
   unfolding indexFor cutSection
   start-drop =
-      rw (append-assoc (startOf cuts) (run (bytes 2) (perCut cuts 1 ss)) (radialSection ss))
-      (drop-append-seam (startOf cuts) (run (bytes 2) (perCut cuts 1 ss) ++ radialSection ss))
+      rw (append-assoc (startOf cuts) (run countOf (perCut cuts 1 ss)) (radialSection ss))
+      (drop-append-seam (startOf cuts) (run countOf (perCut cuts 1 ss) ++ radialSection ss))
 
   second-drop : drop (secondAt cuts) (indexFor cuts ss) ≡ bytes 4 (length ss) ++ run placeOf ss
   unfolding indexFor radialSection
@@ -112,8 +116,8 @@ module _ (cuts : ℕ) (ss : List Stretch) where
   pub start-here : part (length (startOf cuts)) (indexFor cuts ss) 0 ≡ startOf cuts
   unfolding indexFor cutSection
   start-here =
-      entry-is (indexFor cuts ss) 0 (length (startOf cuts)) (startOf cuts) (run (bytes 2) (perCut cuts 1 ss) ++ radialSection ss)
-      (append-assoc (startOf cuts) (run (bytes 2) (perCut cuts 1 ss)) (radialSection ss)) refl
+      entry-is (indexFor cuts ss) 0 (length (startOf cuts)) (startOf cuts) (run countOf (perCut cuts 1 ss) ++ radialSection ss)
+      (append-assoc (startOf cuts) (run countOf (perCut cuts 1 ss)) (radialSection ss)) refl
 
   -- a start that is the index's, and one that is another: it is one byte
   pub start-stands : (x : List ℕ) → getD x 0 0 ≡ getD (startOf cuts) 0 0 → part (length (startOf cuts)) x 0 ≡ part (length (startOf cuts)) (indexFor cuts ss) 0
@@ -132,7 +136,7 @@ module _ (cuts : ℕ) (ss : List Stretch) where
   making r =
       let n : suc cuts - 1 ≡ cuts = omega arith in
       record {
-        counts = start-drop ∙ ap (λ (l : List ℕ). run (bytes 2) l ++ radialSection ss) (sym (rw n (owed-new cuts 1 ss)));
+        counts = start-drop ∙ ap (λ (l : List ℕ). run countOf l ++ radialSection ss) (sym (rw n (owed-new cuts 1 ss)));
         places = entry-past (indexFor cuts ss) (secondAt cuts) 4 (bytes 4 (length ss)) (run placeOf ss) second-drop (length-bytes 4 (length ss));
         low = omega arith;
         high = sym (length-index cuts ss);
@@ -148,15 +152,15 @@ module _ (cuts : ℕ) (ss : List Stretch) where
 
   pub counted : (first second cut count : ℕ) (rest : List Stretch) → Making first second cut count rest → cut ≤ cuts → Rising (cut + 1) rest
       → Counted first second cut count rest
-  unfolding owed run
+  unfolding owed run countOf
   counted first second cut count rest m h r =
       let n : suc cuts - cut ≡ suc (cuts - cut) = omega arith in
       let n1 : suc cuts - (cut + 1) ≡ cuts - cut = omega arith in
       let none = rising-none cut (cut + 1) rest (omega arith) r in
       let new : owed (suc cuts - (cut + 1)) (cut + 1) 0 rest ≡ perCut (cuts - cut) (suc cut) rest = rw (n1, add-one cut) (owed-new (cuts - cut) (suc cut) rest) in
       let l = m .low in
-      let e : drop first (indexFor cuts ss) ≡ bytes 2 count ++ (run (bytes 2) (perCut (cuts - cut) (suc cut) rest) ++ radialSection ss) =
-      m .counts ∙ rw (n, none, add-zero count) (append-assoc (bytes 2 count) (run (bytes 2) (perCut (cuts - cut) (suc cut) rest)) (radialSection ss)) in
+      let e : drop first (indexFor cuts ss) ≡ bytes 2 count ++ (run countOf (perCut (cuts - cut) (suc cut) rest) ++ radialSection ss) =
+      m .counts ∙ rw (n, none, add-zero count) (append-assoc (bytes 2 count) (run countOf (perCut (cuts - cut) (suc cut) rest)) (radialSection ss)) in
       record {
         entry = entry-is (indexFor cuts ss) first 2 (bytes 2 count) _ e (length-bytes 2 count);
         room = omega arith;
@@ -164,7 +168,7 @@ module _ (cuts : ℕ) (ss : List Stretch) where
             record {
               counts =
                   entry-past (indexFor cuts ss) first 2 (bytes 2 count) _ e (length-bytes 2 count)
-                  ∙ ap (λ (l : List ℕ). run (bytes 2) l ++ radialSection ss) (sym new);
+                  ∙ ap (λ (l : List ℕ). run countOf l ++ radialSection ss) (sym new);
               places = m .places;
               low = omega arith;
               high = m .high;
@@ -191,7 +195,7 @@ module _ (cuts : ℕ) (ss : List Stretch) where
         room = omega arith;
         then =
             record {
-              counts = m .counts ∙ ap (λ (l : List ℕ). run (bytes 2) l ++ radialSection ss) (fewer h);
+              counts = m .counts ∙ ap (λ (l : List ℕ). run countOf l ++ radialSection ss) (fewer h);
               places = entry-past (indexFor cuts ss) second 8 (bytes 8 (s .start)) (run placeOf rest) (m .places) (length-bytes 8 (s .start));
               low = m .low;
               high = omega arith;

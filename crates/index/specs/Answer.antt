@@ -11,31 +11,31 @@ use Rattle.index.specs.declared.Answer.{Answer}
 use Rattle.index.specs.declared.Answer.the-variants.{Written, Refused}
 use Rattle.index.specs.Index.{indexOf}
 
--- whether two lists are the same ("The house index": the bytes are its index)
+-- whether two lists are equal ("The house index")
 unfoldable pub same : List ℕ → List ℕ → Bool
 same [] [] = true
 same [] (y ∷ ys) = false
 same (x ∷ xs) [] = false
 same (x ∷ xs) (y ∷ ys) = eqb x y && same xs ys
 
--- whether reading tells complete ("What reading tells"), which `told` says as 0
+-- whether reading says that the file is complete, which `told` has as 0 ("What reading tells")
 unfoldable pub complete : List ℕ → Bool
 complete f = same (told f) (0 ∷ [])
 
--- an answer in document 01's numbers: the index's length; or a refusal's number, and place 0 ("Field rules and refusal numbers")
+-- an answer as numbers: the index's length, or a refusal's number and its place, 0 ("Field rules and refusal numbers")
 unfoldable pub toldIndex : Answer → List ℕ
 toldIndex (Written n) = n ∷ []
 toldIndex (Refused number) = number ∷ 0 ∷ []
 
--- what is answered where n bytes are lent: 36, then 33 ("The house index")
+-- what is answered where n bytes are lent; 36 goes before 33 ("The house index")
 unfoldable pub answerOf : List ℕ → ℕ → List ℕ
 answerOf f n = cond (complete f) (cond (leb (length (indexOf f)) n) (length (indexOf f) ∷ []) (33 ∷ 0 ∷ [])) (36 ∷ 0 ∷ [])
 
--- the index at the room's front where it is complete and fits; every other place keeps its contents ("What reading tells": lent rooms)
+-- what a room then holds: at its front the index, where the file is complete and the index fits ("What reading tells")
 unfoldable pub roomOf : List ℕ → List ℕ → List ℕ
 roomOf f room = cond (complete f) (stored (length (indexOf f)) room 0 (indexOf f)) room
 
--- what writing an index promises of its answer, and of what the room holds after it ("What the promises settle")
+-- the promise of writing: the answer, and what the room holds after it ("What the promises settle")
 pub record Writes (f before : List ℕ) (r : Answer) (after : List ℕ) : Type 0 where
   pub answer : toldIndex r ≡ answerOf f (length before)
   pub room : after ≡ roomOf f before

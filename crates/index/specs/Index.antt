@@ -8,33 +8,37 @@ use Rattle.le.specs.Le.{bytes, run}
 use Rattle.walk.specs.declared.reading.Stretch.{Stretch}
 use Rattle.walk.specs.Reading.{stop, stretches}
 
--- how many of some whole radials belong to a cut ("What reading tells": whole radials)
+-- how many of some whole radials are of a cut ("What reading tells")
 unfoldable pub radialsIn : ℕ → List Stretch → ℕ
 radialsIn cut [] = 0
 radialsIn cut (s ∷ ss) = cond (eqb (s .cut) cut) 1 0 + radialsIn cut ss
 
--- the same of n cuts, from one on ("The house index": radials per cut)
+-- the same for each of n cuts, from a cut on ("The house index")
 unfoldable pub perCut : ℕ → ℕ → List Stretch → List ℕ
 perCut zero cut ss = []
 perCut (suc n) cut ss = radialsIn cut ss ∷ perCut n (suc cut) ss
 
--- what an index starts with ("The house index": cuts, 1 byte)
+-- what an index starts with: the number of cuts, in 1 byte ("The house index")
 unfoldable pub startOf : ℕ → List ℕ
 startOf cuts = bytes 1 cuts
 
--- the first section: cuts are numbered from 1 ("The house index": 2 bytes for each cut)
-unfoldable pub cutSection : ℕ → List Stretch → List ℕ
-cutSection cuts ss = startOf cuts ++ run (bytes 2) (perCut cuts 1 ss)
+-- how many radials a cut has, in 2 bytes ("The house index")
+unfoldable pub countOf : ℕ → List ℕ
+countOf n = bytes 2 n
 
--- a radial's place is where its header starts ("The house index": 8 bytes)
+-- the first section: the cuts, which are numbered from 1 ("The house index")
+unfoldable pub cutSection : ℕ → List Stretch → List ℕ
+cutSection cuts ss = startOf cuts ++ run countOf (perCut cuts 1 ss)
+
+-- where a radial starts, in 8 bytes ("The house index")
 unfoldable pub placeOf : Stretch → List ℕ
 placeOf s = bytes 8 (s .start)
 
--- the second section ("The house index": radials, 4 bytes, then their places)
+-- the second section: how many radials there are, in 4 bytes, and where each one is ("The house index")
 unfoldable pub radialSection : List Stretch → List ℕ
 radialSection ss = bytes 4 (length ss) ++ run placeOf ss
 
--- both, for a number of cuts and some radials ("The house index": the order is fixed)
+-- both sections, for a number of cuts and some radials ("The house index")
 unfoldable pub indexFor : ℕ → List Stretch → List ℕ
 indexFor cuts ss = cutSection cuts ss ++ radialSection ss
 

@@ -15,24 +15,23 @@ use Rattle.index.specs.declared.Layout.the-variants.{Fits, Short, Unfini
 use Rattle.index.specs.Answer.{complete}
 use Rattle.index.specs.Index.{startOf}
 
--- the entry that is due: a radial's place, while it belongs to the cut that is counted; that cut's count, once no further
--- radial does; places alone once every cut is counted; then none ("The house index": the two kinds of entry)
+-- the entry due: the count of a cut that has no further radial, else a radial's place, else none ("The house index")
 unfoldable pub entryOf : Onward → ℕ → ℕ → Entry
 entryOf (Whole s n) cut cuts = cond (leb cut cuts && ltb cut (s .cut)) Count (Place s n)
 entryOf (Stopped w) cut cuts = cond (leb cut cuts) Count End
 
--- where the second section starts ("The house index": 2 bytes for each cut, behind the start)
+-- where the second section starts: behind the start and 2 bytes for each cut ("The house index")
 abbrev pub secondAt : ℕ → ℕ
 secondAt cuts = length (startOf cuts) + 2 * cuts
 
--- how long an index is ("The house index": 4 bytes for the radials, and 8 for each)
+-- how long an index is: 4 bytes more for the number of radials, and 8 for each ("The house index")
 abbrev pub sizeFor : ℕ → ℕ → ℕ
 sizeFor cuts radials = secondAt cuts + 4 + 8 * radials
 
--- how many cuts, radials and bytes there are, where they take no more than len bytes (refusal 33)
+-- how many cuts, radials and bytes an index has, where it has no more than len ("The house index": 33)
 unfoldable pub layoutFor : ℕ → ℕ → ℕ → Layout
 layoutFor cuts radials len = cond (leb (sizeFor cuts radials) len) (Fits cuts radials (sizeFor cuts radials)) Short
 
--- the same for a file, where it is complete (refusal 36)
+-- the same for a file, where it is complete ("The house index": 36)
 unfoldable pub layoutOf : List ℕ → ℕ → Layout
 layoutOf f len = cond (complete f) (layoutFor (stop f .plan .cuts) (length (stretches f)) len) Unfinished
