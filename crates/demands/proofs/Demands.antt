@@ -30,13 +30,14 @@ use Rattle.walk.proofs.Radials.{all-whole}
 use Rattle.walk.proofs.Run.{stays, last-off, enough}
 use Rattle.ask.proofs.Grown.{answers-grow}
 use Rattle.ask.proofs.Sounding.{sound}
+use Rattle.index.proofs.Same.{right-only, right-when}
 use Rattle.writer.proofs.Again.{same-block}
 use Rattle.writer.proofs.Agreeing.{taken-when, keeps}
 use Rattle.writer.proofs.Copying.{copy-of}
 use Rattle.writer.proofs.Runs.{run-back}
 use Rattle.writer.proofs.Told.{puts-same}
 use Rattle.demands.specs.One.{Determined, PutDetermined, Ending, is-complete, is-open, is-refused}
-use Rattle.demands.specs.Two.{RefusedExactly, WholeRadials, Codes, Trips, Writing}
+use Rattle.demands.specs.Two.{RefusedExactly, WholeRadials, Codes, Trips, Writing, IndexRight}
 use Rattle.demands.specs.Three.{DemandThree}
 
 -- ---- demand 1
@@ -136,6 +137,9 @@ writing =
       again = same-block;
       runs = run-back;
     }
+
+pub index-right : IndexRight
+index-right = record { only = right-only; when = right-when }
 
 -- ---- demand 3
 

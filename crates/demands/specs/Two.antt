@@ -1,5 +1,6 @@
 -- DEMAND 2: reading means what the standard says, as document 01 settles it.
-use mathlib.Core.List.{List}
+use mathlib.Core.Bool.{true}
+use mathlib.Core.List.{List, [], _∷_}
 use mathlib.Core.Path.{_≡_}
 use Prim.Native.Nat.{ℕ, _<_, _≤_}
 use lib.IntN.{pos}
@@ -24,7 +25,7 @@ use Rattle.gates.specs.declared.Coding.{Coding}
 use Rattle.gates.specs.declared.Gate.the-variants.{Value}
 use Rattle.gates.specs.Gates.{kindOf, toldOf, differenceOf, floatOf, hundredthsOf}
 use Rattle.gates.proofs.Nearest.{Nearest}
-use Rattle.walk.specs.Growth.{bytesOf}
+use Rattle.walk.specs.Growth.{bytesOf, told}
 use Rattle.walk.specs.declared.reading.Stretch.{Stretch}
 use Rattle.walk.specs.declared.due.Walk.{Walk}
 use Rattle.walk.specs.Reading.{stop, stretches}
@@ -32,6 +33,8 @@ use Rattle.walk.specs.Tiling.{AllWhole}
 use Rattle.ask.specs.declared.places.Where.the-variants.{At}
 use Rattle.ask.specs.Places.{whereIs}
 use Rattle.ask.specs.Sound.{Sound}
+use Rattle.index.specs.Answer.{rightFor}
+use Rattle.index.specs.Index.{indexOf}
 use Rattle.writer.specs.Block.{Block}
 use Rattle.writer.specs.Trips.{Fits, TakenWhen, Keeps, CopyOf, SameBlock, Run, ReadBack}
 
@@ -77,3 +80,8 @@ pub record Writing : Type 0 where
   pub copies : (f room : List ℕ) → Bytes f → stop f .at ≤ length room → CopyOf f room
   pub again : (b : Block) → Fits b → (w : Walk) (room : List ℕ) → SameBlock b w room
   pub runs : {w : Walk} {room : List ℕ} → Run w room → ReadBack w room
+
+-- an index is right for a file exactly when the file is complete and the bytes are its index
+pub record IndexRight : Type 0 where
+  pub only : (f x : List ℕ) → rightFor f x ≡ true → (told f ≡ 0 ∷ []) × (indexOf f ≡ x)
+  pub when : (f x : List ℕ) → told f ≡ 0 ∷ [] → indexOf f ≡ x → rightFor f x ≡ true
