@@ -45,7 +45,13 @@ fn print_rooms(kinds: &[u8; 16], hundredths: &[i32; 16]) {
 }
 
 // A row, with the first so many places of each room lent.
-pub fn print_row(file: &[u8], sequence: u32, t: u32, kinds_lent: usize, hundredths_lent: usize)
+pub(crate) fn print_row(
+    file: &[u8],
+    sequence: u32,
+    t: u32,
+    kinds_lent: usize,
+    hundredths_lent: usize,
+)
     requires { ⌜ («kinds_lent» ≤ 16) × («hundredths_lent» ≤ 16) ⌝ }
 {
     let mut kinds = [9u8; 16];
@@ -62,7 +68,13 @@ pub fn print_row(file: &[u8], sequence: u32, t: u32, kinds_lent: usize, hundredt
 }
 
 // A line of its own.
-pub fn print_lent(file: &[u8], sequence: u32, t: u32, kinds_lent: usize, hundredths_lent: usize)
+pub(crate) fn print_lent(
+    file: &[u8],
+    sequence: u32,
+    t: u32,
+    kinds_lent: usize,
+    hundredths_lent: usize,
+)
     requires { ⌜ («kinds_lent» ≤ 16) × («hundredths_lent» ≤ 16) ⌝ }
 {
     word(b"row");

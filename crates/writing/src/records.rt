@@ -86,7 +86,7 @@ pub fn radial(f: Facts) -> Radial {
 }
 
 // A moment of four gates, by its type and the bytes of a gate.
-pub fn moment(data_type: u32, bytes: u16) -> Moment
+pub(crate) fn moment(data_type: u32, bytes: u16) -> Moment
     requires { ⌜ bytes ≤ 2 ⌝ }
 {
     let mut r = Moment::read(b"", 0);

@@ -53,7 +53,14 @@ fn put_radial(w: Walk, room: &mut [u8], f: Facts) -> Walk {
 }
 
 // The three radials of a cut, by the states of the first and the last.
-pub fn put_radials(w: Walk, room: &mut [u8], moments: u8, cut: u8, opening: u8, closing: u8) -> Walk
+pub(crate) fn put_radials(
+    w: Walk,
+    room: &mut [u8],
+    moments: u8,
+    cut: u8,
+    opening: u8,
+    closing: u8,
+) -> Walk
     requires { ⌜ (1 ≤ cut) × (cut ≤ 3) ⌝ }
 {
     let before = 3 * (cut - 1);
