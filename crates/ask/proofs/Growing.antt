@@ -11,20 +11,20 @@ use Rattle.rules.specs.Ranges.{within}
 use Rattle.walk.specs.declared.due.Due.{Due}
 use Rattle.walk.specs.declared.due.Due.the-variants as due
 use Rattle.walk.specs.declared.due.Walk.{Walk}
-use Rattle.walk.specs.declared.reading.Found.the-variants.{There}
-use Rattle.walk.specs.declared.reading.Onward.{Onward}
-use Rattle.walk.specs.declared.reading.Onward.the-variants.{Whole, Stopped}
-use Rattle.walk.specs.declared.reading.Stretch.{Stretch}
-use Rattle.walk.specs.declared.step.Step.the-variants.{Took}
+use Rattle.reading.specs.declared.Found.the-variants.{There}
+use Rattle.reading.specs.declared.Onward.{Onward}
+use Rattle.reading.specs.declared.Onward.the-variants.{Whole, Stopped}
+use Rattle.reading.specs.declared.Stretch.{Stretch}
+use Rattle.reading.specs.declared.step.Step.the-variants.{Took}
 use Rattle.walk.specs.Due.{atStart, dueIf, cutPlace}
 use Rattle.walk.specs.After.{afterData}
-use Rattle.walk.specs.Step.{takeGeneric, takeSite, takeTask, takeCut, takeRadial, takeMoment, takeData, blockAt}
-use Rattle.walk.specs.Reading.{walkOn, last, fuel, stop, trace, stretches, advanceOf, nth}
-use Rattle.walk.specs.Growth.{bytesOf, Same}
-use Rattle.walk.proofs.Growing.{through}
-use Rattle.walk.proofs.Loops.{further, no-more}
-use Rattle.walk.proofs.Radials.{Between, outside, between-next}
-use Rattle.walk.proofs.Run.{settle-took, took-inj, left, enough, taken, Goes, on, off, goes, run-took, run-stays}
+use Rattle.reading.specs.Step.{takeGeneric, takeSite, takeTask, takeCut, takeRadial, takeMoment, takeData, blockAt}
+use Rattle.reading.specs.Reading.{walkOn, last, fuel, stop, trace, stretches, advanceOf, nth}
+use Rattle.reading.specs.Growth.{bytesOf, Same}
+use Rattle.reading.proofs.Growing.{through}
+use Rattle.reading.proofs.Loops.{further, no-more}
+use Rattle.reading.proofs.Radials.{Between, outside, between-next}
+use Rattle.reading.proofs.Run.{settle-took, took-inj, left, enough, taken, Goes, on, off, goes, run-took, run-stays}
 use Rattle.ask.specs.declared.tallies.Tally.{Tally}
 use Rattle.ask.specs.Growth.{NoFewer}
 use Rattle.ask.specs.Tallies.{added, tallyOver, cutAccepted}

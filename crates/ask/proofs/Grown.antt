@@ -9,15 +9,15 @@ use borrow.Author.Tests.{eqb-false, ne-eqb}
 use lib.Dec.{eqb}
 use lib.ListN.{length}
 use Rattle.le.proofs.Laws.{part-in}
-use Rattle.blocks.specs.Radial.{radialOf, radialAt}
+use Rattle.radial.specs.Radial.{radialOf, radialAt}
 use Rattle.moments.specs.declared.Found as moment
 use Rattle.moments.specs.Moments.{momentsOf, findIn}
-use Rattle.walk.specs.declared.reading.Found.{Found}
-use Rattle.walk.specs.declared.reading.Found.the-variants as found
-use Rattle.walk.specs.declared.reading.Stretch.{Stretch}
-use Rattle.walk.specs.Growth.{bytesOf, Grows}
-use Rattle.walk.specs.Reading.{stretches, nth}
-use Rattle.walk.proofs.Grown.{grows}
+use Rattle.reading.specs.declared.Found.{Found}
+use Rattle.reading.specs.declared.Found.the-variants as found
+use Rattle.reading.specs.declared.Stretch.{Stretch}
+use Rattle.reading.specs.Growth.{bytesOf, Grows}
+use Rattle.reading.specs.Reading.{stretches, nth}
+use Rattle.reading.proofs.Grown.{grows}
 use Rattle.ask.specs.declared.answers.GateAnswer.the-variants as gate
 use Rattle.ask.specs.declared.places.Where.{Where}
 use Rattle.ask.specs.declared.places.Where.the-variants.{At}

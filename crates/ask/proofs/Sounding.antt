@@ -17,22 +17,22 @@ use Rattle.le.proofs.Laws.{part-same}
 use Rattle.rules.specs.Moments.{bit, binLengthOk}
 use Rattle.rules.specs.Ranges.{among, within}
 use Rattle.rules.proofs.Numbers.{by-bits, exactly}
-use Rattle.blocks.specs.declared.check.Check.the-variants.{Fine}
-use Rattle.blocks.specs.declared.moment.Moment.{Moment}
-use Rattle.blocks.specs.declared.moment.MomentDue.{MomentDue}
-use Rattle.blocks.specs.declared.radial.Radial.{Radial}
-use Rattle.blocks.specs.Moment.{momentOf, momentAt, momentCheck, momentRules}
-use Rattle.blocks.specs.Radial.{radialOf, radialAt}
-use Rattle.blocks.proofs.Judged.{all-hold}
+use Rattle.rules.specs.declared.check.Check.the-variants.{Fine}
+use Rattle.moment.specs.declared.Moment.{Moment}
+use Rattle.moment.specs.declared.MomentDue.{MomentDue}
+use Rattle.radial.specs.declared.Radial.{Radial}
+use Rattle.moment.specs.Moment.{momentOf, momentAt, momentCheck, momentRules}
+use Rattle.radial.specs.Radial.{radialOf, radialAt}
+use Rattle.rules.proofs.Judged.{all-hold}
 use Rattle.moments.specs.declared.Found as moment
 use Rattle.moments.specs.Moments.{after, momentsFrom, momentsOf, findIn, dataAt}
-use Rattle.walk.specs.declared.reading.Found.{Found}
-use Rattle.walk.specs.declared.reading.Found.the-variants as found
-use Rattle.walk.specs.declared.reading.Stretch.{Stretch}
-use Rattle.walk.specs.Growth.{bytesOf}
-use Rattle.walk.specs.Reading.{stretches, nth}
-use Rattle.walk.specs.Tiling.{dueWith, Tiled, none, more, WholeRadial, AllWhole}
-use Rattle.walk.proofs.Radials.{all-whole}
+use Rattle.reading.specs.declared.Found.{Found}
+use Rattle.reading.specs.declared.Found.the-variants as found
+use Rattle.reading.specs.declared.Stretch.{Stretch}
+use Rattle.reading.specs.Growth.{bytesOf}
+use Rattle.reading.specs.Reading.{stretches, nth}
+use Rattle.reading.specs.Tiling.{dueWith, Tiled, none, more, WholeRadial, AllWhole}
+use Rattle.reading.proofs.Radials.{all-whole}
 use Rattle.ask.specs.declared.places.Where.the-variants.{At}
 use Rattle.ask.specs.Places.{inStretch, inFound, whereIs}
 use Rattle.ask.specs.Sound.{Sound}

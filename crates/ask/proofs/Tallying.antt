@@ -7,20 +7,20 @@ use mathlib.Core.List.{List, [], _∷_, _++_}
 use mathlib.Core.Path.{_≡_, refl, sym, ap, _∙_}
 use lib.Dec.{eqb}
 use lib.ListN.{length, length-take, length-drop}
-use Rattle.blocks.specs.Moment.{momentAt}
+use Rattle.moment.specs.Moment.{momentAt}
 use Rattle.gates.specs.Codes.{codesOf}
 use Rattle.gates.specs.Counting.{countOf, totalOf}
 use Rattle.gates.proofs.Codes.{codes-le}
 use Rattle.gates.proofs.Counting.{counts-all}
 use Rattle.moments.specs.Moments.{momentsOf, findIn, dataAt}
-use Rattle.walk.specs.declared.reading.Stretch.{Stretch}
-use Rattle.walk.specs.Growth.{bytesOf}
+use Rattle.reading.specs.declared.Stretch.{Stretch}
+use Rattle.reading.specs.Growth.{bytesOf}
 use Rattle.walk.specs.declared.due.Walk.{Walk}
-use Rattle.walk.specs.declared.reading.Onward.the-variants.{Whole, Stopped}
+use Rattle.reading.specs.declared.Onward.the-variants.{Whole, Stopped}
 use Rattle.walk.specs.Due.{atStart}
-use Rattle.walk.specs.Reading.{stop, last, fuel, trace, advanceOf}
-use Rattle.walk.proofs.Loops.{further, no-more, stopped}
-use Rattle.walk.proofs.Radials.{Between, outside, between-next}
+use Rattle.reading.specs.Reading.{stop, last, fuel, trace, advanceOf}
+use Rattle.reading.proofs.Loops.{further, no-more, stopped}
+use Rattle.reading.proofs.Radials.{Between, outside, between-next}
 use Rattle.ask.specs.declared.places.Where.{Where}
 use Rattle.ask.specs.declared.places.Where.the-variants.{At, NoRadial, NoMoment}
 use Rattle.ask.specs.declared.tallies.Tally.{Tally}

@@ -7,19 +7,19 @@ use mathlib.Core.Path.{_≡_}
 use lib.Dec.{ltb}
 use lib.IntN.{ℤ}
 use lib.ListN.{length, getD}
-use Rattle.blocks.specs.declared.moment.Moment.{Moment}
-use Rattle.blocks.specs.Moment.{momentAt}
-use Rattle.blocks.specs.Radial.{radialAt}
+use Rattle.moment.specs.declared.Moment.{Moment}
+use Rattle.moment.specs.Moment.{momentAt}
+use Rattle.radial.specs.Radial.{radialAt}
 use Rattle.gates.specs.declared.Coding.{Coding}
 use Rattle.gates.specs.declared.RowAnswer.{RowAnswer}
 use Rattle.gates.specs.Codes.{codesOf}
 use Rattle.gates.specs.Gates.{toldOf}
 use Rattle.gates.specs.Rows.{toldRow, Rowed}
 use Rattle.moments.specs.Moments.{dataAt}
-use Rattle.walk.specs.declared.reading.Found.{Found}
-use Rattle.walk.specs.declared.reading.Found.the-variants as found
-use Rattle.walk.specs.Growth.{bytesOf}
-use Rattle.walk.specs.Reading.{stretches, nth}
+use Rattle.reading.specs.declared.Found.{Found}
+use Rattle.reading.specs.declared.Found.the-variants as found
+use Rattle.reading.specs.Growth.{bytesOf}
+use Rattle.reading.specs.Reading.{stretches, nth}
 use Rattle.ask.specs.declared.answers.RadialAnswer.{RadialAnswer}
 use Rattle.ask.specs.declared.answers.MomentAnswer.{MomentAnswer}
 use Rattle.ask.specs.declared.answers.GateAnswer.{GateAnswer}

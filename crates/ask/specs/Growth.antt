@@ -3,9 +3,9 @@ use Prim.Native.Nat.{ℕ, _≤_}
 use mathlib.Core.List.{List, _++_}
 use mathlib.Core.Logic.{_⊎_}
 use mathlib.Core.Path.{_≡_}
-use Rattle.walk.specs.declared.reading.Found.the-variants.{There}
-use Rattle.walk.specs.declared.reading.Stretch.{Stretch}
-use Rattle.walk.specs.Reading.{stretches, nth}
+use Rattle.reading.specs.declared.Found.the-variants.{There}
+use Rattle.reading.specs.declared.Stretch.{Stretch}
+use Rattle.reading.specs.Reading.{stretches, nth}
 use Rattle.ask.specs.declared.answers.GateAnswer.{GateAnswer}
 use Rattle.ask.specs.declared.answers.GateAnswer.the-variants as gate
 use Rattle.ask.specs.declared.tallies.Tally.{Tally}

@@ -1,11 +1,11 @@
 -- Where an asked radial and moment stand (document 01, "What reading tells").
 use mathlib.Core.List.{List}
 use Prim.Native.Nat.{ℕ}
-use Rattle.walk.specs.declared.reading.Stretch.{Stretch}
-use Rattle.walk.specs.declared.reading.Found.{Found}
-use Rattle.walk.specs.declared.reading.Found.the-variants as found
-use Rattle.walk.specs.Growth.{bytesOf}
-use Rattle.walk.specs.Reading.{stretches, nth}
+use Rattle.reading.specs.declared.Stretch.{Stretch}
+use Rattle.reading.specs.declared.Found.{Found}
+use Rattle.reading.specs.declared.Found.the-variants as found
+use Rattle.reading.specs.Growth.{bytesOf}
+use Rattle.reading.specs.Reading.{stretches, nth}
 use Rattle.moments.specs.declared.Found as moment
 use Rattle.moments.specs.Moments.{momentsOf, findIn}
 use Rattle.ask.specs.declared.places.Where.{Where}

@@ -4,16 +4,16 @@ use mathlib.Core.Bool.{Bool, cond, _&&_}
 use mathlib.Core.List.{List, [], _∷_, map}
 use lib.Dec.{eqb, leb}
 use Rattle.rules.specs.Ranges.{within}
-use Rattle.blocks.specs.Moment.{momentAt}
+use Rattle.moment.specs.Moment.{momentAt}
 use Rattle.gates.specs.Codes.{codesOf}
 use Rattle.gates.specs.Counting.{countsOf, summed}
 use Rattle.gates.specs.Gates.{kindOf}
 use Rattle.moments.specs.Moments.{momentsOf, findIn, dataAt}
 use Rattle.walk.specs.declared.due.Walk.{Walk}
-use Rattle.walk.specs.declared.reading.Stretch.{Stretch}
+use Rattle.reading.specs.declared.Stretch.{Stretch}
 use Rattle.walk.specs.Due.{cutPlace}
-use Rattle.walk.specs.Growth.{bytesOf}
-use Rattle.walk.specs.Reading.{stop, stretches}
+use Rattle.reading.specs.Growth.{bytesOf}
+use Rattle.reading.specs.Reading.{stop, stretches}
 use Rattle.ask.specs.declared.places.Where.{Where}
 use Rattle.ask.specs.declared.places.Where.the-variants.{At, NoRadial, NoMoment}
 use Rattle.ask.specs.declared.tallies.Tally.{Tally}

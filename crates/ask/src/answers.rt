@@ -4,13 +4,12 @@ ghost use Rattle.ask.specs.Places.{whereIs};
 ghost use Rattle.ask.specs.Answers.{radialOfFile, momentTold, dataTold, codingOf, gateIn, gateTold, RowTold};
 use crate::places;
 use crate::places::Where;
-use blocks::moment::Moment;
-use blocks::radial::Radial;
 use gates::Coding;
 use gates::RowAnswer;
 use gates::Told;
-use walk::reading;
-use walk::reading::Found;
+use moment::Moment;
+use radial::Radial;
+use reading::Found;
 
 // 0, or the refusal's number; the radial's place, and its header.
 pub struct RadialAnswer {
@@ -79,7 +78,7 @@ pub fn moment_data(file: &[u8], sequence: usize, t: u32) -> &[u8]
     }
 }
 
-pub fn coding(h: Moment) -> Coding
+pub(crate) fn coding(h: Moment) -> Coding
     ensures { λ r. ⌜ r ≡ codingOf h ⌝ }
 {
     Coding {
@@ -90,7 +89,7 @@ pub fn coding(h: Moment) -> Coding
 }
 
 // A gate of a moment's data.
-pub fn gate_in(h: Moment, bytes: &[u8], i: usize) -> GateAnswer
+pub(crate) fn gate_in(h: Moment, bytes: &[u8], i: usize) -> GateAnswer
     ensures { λ r. ⌜ r ≡ gateIn h (now (bytes .entry)) i ⌝ }
 {
     if i < gates::gates_in(bytes, h.bin_length) {

@@ -1,11 +1,10 @@
 // Where an asked radial and moment stand.
 ghost use mathlib.Core.Path.{_≡_};
-ghost use Rattle.walk.specs.Growth.{bytesOf};
+ghost use Rattle.reading.specs.Growth.{bytesOf};
 ghost use Rattle.moments.specs.Moments.{momentsOf, findIn};
 ghost use Rattle.ask.specs.Places.{whereIs, inStretch};
-use walk::reading;
-use walk::reading::Found;
-use walk::reading::Stretch;
+use reading::Found;
+use reading::Stretch;
 
 pub enum Where {
     // The radial's stretch, and the place of the moment's header in it.
@@ -15,7 +14,7 @@ pub enum Where {
 }
 
 // A radial's own stretch of the file. A stretch that does not lie in the file gives what the file has of it.
-pub fn own(file: &[u8], s: Stretch) -> &[u8]
+pub(crate) fn own(file: &[u8], s: Stretch) -> &[u8]
     ensures { λ r. ⌜ now r ≡ bytesOf (now (file .entry)) s ⌝ }
 {
     let start = s.start;
@@ -33,7 +32,7 @@ pub fn own(file: &[u8], s: Stretch) -> &[u8]
 }
 
 // The moment of a type in a radial's own stretch.
-pub fn in_stretch(b: &[u8], s: Stretch, t: u32) -> Where
+pub(crate) fn in_stretch(b: &[u8], s: Stretch, t: u32) -> Where
     ensures { λ r. ⌜ r ≡ inStretch s (findIn (now (b .entry)) t (momentsOf (now (b .entry)))) ⌝ }
 {
     match moments::find(b, t) {
@@ -42,7 +41,7 @@ pub fn in_stretch(b: &[u8], s: Stretch, t: u32) -> Where
     }
 }
 
-pub fn find(file: &[u8], sequence: usize, t: u32) -> Where
+pub(crate) fn find(file: &[u8], sequence: usize, t: u32) -> Where
     ensures { λ r. ⌜ r ≡ whereIs (now (file .entry)) sequence t ⌝ }
 {
     match reading::find(file, sequence) {

@@ -8,13 +8,12 @@ ghost use Rattle.ask.specs.Tallies.{noTally, added, tallyOne, tallyOf, c
 use crate::answers;
 use crate::places;
 use crate::places::Where;
-use blocks::moment::Moment;
 use gates::Counts;
+use moment::Moment;
+use reading::Onward;
+use reading::Stretch;
 use walk::due::Walk;
 use walk::due::cut_place;
-use walk::reading;
-use walk::reading::Onward;
-use walk::reading::Stretch;
 
 pub struct Tally {
     pub radials: u64,

@@ -3,13 +3,13 @@ use mathlib.Core.List.{List}
 use mathlib.Core.Path.{_≡_, refl, sym, ap, _∙_}
 use Prim.Native.Nat.{ℕ, zero, suc, _<_}
 use native.Mathlib.Omega.{arith}
-use Rattle.blocks.proofs.Judged.{all-hold, fine-if}
-use Rattle.blocks.proofs.Trips.Cut as cut
-use Rattle.blocks.proofs.Trips.Generic as generic
-use Rattle.blocks.proofs.Trips.Moment as moment
-use Rattle.blocks.proofs.Trips.Radial as radial
-use Rattle.blocks.proofs.Trips.Site as site
-use Rattle.blocks.proofs.Trips.Task as task
+use Rattle.rules.proofs.Judged.{all-hold, fine-if}
+use Rattle.cut.proofs.Trips as cut
+use Rattle.generic.proofs.Trips as generic
+use Rattle.moment.proofs.Trips as moment
+use Rattle.radial.proofs.Trips as radial
+use Rattle.site.proofs.Trips as site
+use Rattle.task.proofs.Trips as task
 use Rattle.gates.specs.declared.Coding.{Coding}
 use Rattle.gates.specs.declared.Gate.{Gate}
 use Rattle.gates.specs.declared.Told.{Told}
@@ -18,16 +18,16 @@ use Rattle.gates.proofs.Gates.{gate-value, told-value, told-other}
 use Rattle.gates.proofs.Nearest.{hundredths-near}
 use Rattle.gates.proofs.Rows.{row-one}
 use Rattle.gates.proofs.Tellings.{told-gate-one}
-use Rattle.walk.specs.declared.reading.Reading.{Reading}
-use Rattle.walk.specs.declared.reading.Verdict.{Verdict}
-use Rattle.walk.specs.declared.reading.Verdict.the-variants as verdict
-use Rattle.walk.specs.declared.step.Step.{Step}
-use Rattle.walk.specs.declared.step.Step.the-variants.{Took, Open, Refused, Complete}
+use Rattle.reading.specs.declared.Reading.{Reading}
+use Rattle.reading.specs.declared.Verdict.{Verdict}
+use Rattle.reading.specs.declared.Verdict.the-variants as verdict
+use Rattle.reading.specs.declared.step.Step.{Step}
+use Rattle.reading.specs.declared.step.Step.the-variants.{Took, Open, Refused, Complete}
 use Rattle.walk.specs.Due.{atStart}
-use Rattle.walk.specs.Reading.{Tells, verdictTold, ending, endingTold, fuel}
-use Rattle.walk.proofs.Grown.{grows}
-use Rattle.walk.proofs.Radials.{all-whole}
-use Rattle.walk.proofs.Run.{stays, last-off, enough}
+use Rattle.reading.specs.Reading.{Tells, verdictTold, ending, endingTold, fuel}
+use Rattle.reading.proofs.Grown.{grows}
+use Rattle.reading.proofs.Radials.{all-whole}
+use Rattle.reading.proofs.Run.{stays, last-off, enough}
 use Rattle.ask.proofs.Grown.{answers-grow}
 use Rattle.ask.proofs.Sounding.{sound}
 use Rattle.index.proofs.Same.{right-only, right-when}

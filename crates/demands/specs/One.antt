@@ -10,11 +10,11 @@ use Rattle.gates.specs.declared.Gate.{Gate}
 use Rattle.gates.specs.declared.RowAnswer.{RowAnswer}
 use Rattle.gates.specs.Gates.{toldGate}
 use Rattle.gates.specs.Rows.{Rowed}
-use Rattle.walk.specs.declared.reading.Reading.{Reading}
-use Rattle.walk.specs.declared.reading.Verdict.{Verdict}
+use Rattle.reading.specs.declared.Reading.{Reading}
+use Rattle.reading.specs.declared.Verdict.{Verdict}
 use Rattle.writer.specs.declared.order.Put.{Put}
 use Rattle.writer.specs.Put.{Outcome, Puts}
-use Rattle.walk.specs.Reading.{Tells, verdictTold, ending, endingTold}
+use Rattle.reading.specs.Reading.{Tells, verdictTold, ending, endingTold}
 
 pub record Determined : Type 0 where
   -- a verdict is what it tells, and reading tells one verdict, one number of bytes read and one of whole radials

@@ -3,7 +3,7 @@
 use mathlib.Core.List.{List}
 use Prim.Native.Nat.{ℕ, _<_}
 use lib.ListN.{length}
-use Rattle.walk.specs.Growth.{Grows}
+use Rattle.reading.specs.Growth.{Grows}
 use Rattle.ask.specs.Growth.{AnswersGrow}
 
 pub record Growth (A C : List ℕ) : Type 0 where

@@ -6,30 +6,30 @@ use Prim.Native.Nat.{ℕ, _<_, _≤_}
 use lib.IntN.{pos}
 use lib.ListN.{length}
 use Rattle.le.specs.Le.{Bytes}
-use Rattle.blocks.specs.declared.check.Check.the-variants.{Fine}
-use Rattle.blocks.specs.Check.{Rule, verdict}
-use Rattle.blocks.proofs.Judged.{Hold}
-use Rattle.blocks.specs.declared.cut.Cut.{Cut}
-use Rattle.blocks.specs.declared.generic.Generic.{Generic}
-use Rattle.blocks.specs.declared.moment.Moment.{Moment}
-use Rattle.blocks.specs.declared.radial.Radial.{Radial}
-use Rattle.blocks.specs.declared.site.Site.{Site}
-use Rattle.blocks.specs.declared.task.Task.{Task}
-use Rattle.blocks.specs.Cut.{cutOf, cutBytes, CutFits}
-use Rattle.blocks.specs.Generic.{genericOf, genericBytes, GenericFits}
-use Rattle.blocks.specs.Moment.{momentOf, momentBytes, MomentFits}
-use Rattle.blocks.specs.Radial.{radialOf, radialBytes, RadialFits}
-use Rattle.blocks.specs.Site.{siteOf, siteBytes, SiteFits}
-use Rattle.blocks.specs.Task.{taskOf, taskBytes, TaskFits}
+use Rattle.rules.specs.declared.check.Check.the-variants.{Fine}
+use Rattle.rules.specs.Check.{Rule, verdict}
+use Rattle.rules.proofs.Judged.{Hold}
+use Rattle.cut.specs.declared.Cut.{Cut}
+use Rattle.generic.specs.declared.Generic.{Generic}
+use Rattle.moment.specs.declared.Moment.{Moment}
+use Rattle.radial.specs.declared.Radial.{Radial}
+use Rattle.site.specs.declared.Site.{Site}
+use Rattle.task.specs.declared.Task.{Task}
+use Rattle.cut.specs.Cut.{cutOf, cutBytes, CutFits}
+use Rattle.generic.specs.Generic.{genericOf, genericBytes, GenericFits}
+use Rattle.moment.specs.Moment.{momentOf, momentBytes, MomentFits}
+use Rattle.radial.specs.Radial.{radialOf, radialBytes, RadialFits}
+use Rattle.site.specs.Site.{siteOf, siteBytes, SiteFits}
+use Rattle.task.specs.Task.{taskOf, taskBytes, TaskFits}
 use Rattle.gates.specs.declared.Coding.{Coding}
 use Rattle.gates.specs.declared.Gate.the-variants.{Value}
 use Rattle.gates.specs.Gates.{kindOf, toldOf, differenceOf, floatOf, hundredthsOf}
 use Rattle.gates.proofs.Nearest.{Nearest}
-use Rattle.walk.specs.Growth.{bytesOf, told}
-use Rattle.walk.specs.declared.reading.Stretch.{Stretch}
+use Rattle.reading.specs.Growth.{bytesOf, told}
+use Rattle.reading.specs.declared.Stretch.{Stretch}
 use Rattle.walk.specs.declared.due.Walk.{Walk}
-use Rattle.walk.specs.Reading.{stop, stretches}
-use Rattle.walk.specs.Tiling.{AllWhole}
+use Rattle.reading.specs.Reading.{stop, stretches}
+use Rattle.reading.specs.Tiling.{AllWhole}
 use Rattle.ask.specs.declared.places.Where.the-variants.{At}
 use Rattle.ask.specs.Places.{whereIs}
 use Rattle.ask.specs.Sound.{Sound}

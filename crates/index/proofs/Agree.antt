@@ -1,4 +1,6 @@
--- Bytes that agree with an index in two sections, from the front and from the seam on. Assumes nothing.
+-- Bytes that agree with an index in two sections, from the front and from the seam on: an entry more, read as its number,
+-- makes the agreement longer, since parts that agree join; one entry that differs makes the bytes another list. Assumes
+-- nothing.
 use Prim.Native.Nat.{ℕ, _+_, _-_, _%_, _^_, _≤_}
 use native.Mathlib.Nat.{zero-add, add-zero, one-le-pow, mod-lt}
 use native.Mathlib.Omega.{arith}
@@ -6,9 +8,10 @@ use mathlib.Core.Bool.{false}
 use mathlib.Core.List.{List, [], _++_, append-nil}
 use mathlib.Core.Path.{_≡_, refl, sym, ap, ap₂, _∙_}
 use lib.Dec.{lit<}
-use lib.ListN.{length}
+use lib.ListN.{length, getD, drop}
+use lib.Seq.{getD-drop}
 use Rattle.le.specs.Le.{le, bytes, part, Bytes}
-use Rattle.le.proofs.Laws.{le-bytes, bytes-le, bytes-low, le-part, part-join, part-all}
+use Rattle.le.proofs.Laws.{le-bytes, bytes-le, bytes-low, le-part, part-join, part-same, part-all}
 use Rattle.index.specs.Answer.{same}
 use Rattle.index.proofs.Same.{not-same}
 
@@ -29,13 +32,21 @@ longer x y m n at to e p q = more x ∙ ap₂ (λ (u v : List ℕ). u ++ v) p q 
     more : (f : List ℕ) → part (m + n) f at ≡ part m f at ++ part n f to
     more f = rw e at (sym (part-join m n f at))
 
+-- a part of what follows a place
+pub part-drop : (n m : ℕ) (f : List ℕ) (at : ℕ) → part n (drop m f) at ≡ part n f (m + at)
+part-drop n m f at = part-same n (drop m f) f at (m + at) (λ i h. getD-drop m f (at + i) 0 ∙ ap (λ (j : ℕ). getD f j 0) (omega arith))
+
+-- a part that is not the index's
+pub differs : (index x : List ℕ) (k at : ℕ) (e : List ℕ) → part k index at ≡ e → (part k x at ≡ e → ⊥) → same index x ≡ false
+differs index x k at e is n = not-same index x (λ q. n (ap (λ (f : List ℕ). part k f at) (sym q) ∙ is))
+
 -- an entry that is the index's, and one that is another
 module _ (index x : List ℕ) (k v at : ℕ) (entry : part k index at ≡ bytes k v) where
   pub stands-here : Bytes x → le k x at ≡ v % 256 ^ k → part k x at ≡ part k index at
   stands-here bs e = number-is k v x at bs e ∙ sym entry
 
   pub differs-here : (le k x at ≡ v % 256 ^ k → ⊥) → same index x ≡ false
-  differs-here n = not-same index x (λ q. n (number-of k v x at (ap (λ (f : List ℕ). part k f at) (sym q) ∙ entry)))
+  differs-here n = differs index x k at (bytes k v) entry (λ q. n (number-of k v x at q))
 
 module _ (index x : List ℕ) (seam : ℕ) where
   pub record Agree (first second : ℕ) : Type 0 where

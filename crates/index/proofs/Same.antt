@@ -1,4 +1,5 @@
--- The test of two lists, and the numbers of an answer, tell what they should. Assumes nothing.
+-- The test of two lists holds exactly of equal ones, by induction; so an index is right exactly when the file is complete
+-- and the bytes are its index. An answer's numbers tell the answer. Assumes nothing.
 use Prim.Native.Nat.{ℕ}
 use native.Mathlib.Omega.{arith}
 use mathlib.Core.Bool.{Bool, true, false, _&&_}
@@ -6,7 +7,7 @@ use mathlib.Core.List.{List, [], _∷_}
 use mathlib.Core.Path.{_≡_, refl, ap₂}
 use borrow.Author.Tests.{eq-eqb, eqb-true}
 use lib.Dec.{eqb}
-use Rattle.walk.specs.Growth.{told}
+use Rattle.reading.specs.Growth.{told}
 use Rattle.index.specs.declared.Answer.{Answer}
 use Rattle.index.specs.declared.Answer.the-variants.{Written, Refused}
 use Rattle.index.specs.Index.{indexOf}

@@ -1,4 +1,6 @@
--- What stands where in an index, and what is still to come of it while its two sections grow side by side. Assumes nothing.
+-- What stands where in an index, and what is still to come of it while its two sections grow side by side: what follows a
+-- place begins with the entry that goes there, and radials come cut by cut, so a cut's count is known where the next cut
+-- begins. Assumes nothing.
 use Prim.Native.Nat.{ℕ, zero, suc, _+_, _*_, _-_, _<_, _≤_}
 use native.Mathlib.Nat.{zero-add, add-zero}
 use native.Mathlib.Numerals.{add-one}
@@ -9,25 +11,23 @@ use mathlib.Core.Logic.{_⊎_, inl, inr}
 use mathlib.Core.Path.{_≡_, refl, sym, ap, ap₂, _∙_}
 use borrow.Author.Tests.{eq-eqb, ne-eqb}
 use lib.ListN.{length, getD, drop, length-append}
-use lib.Seq.{drop-at, drop-append-seam, drop-drop, getD-drop}
+use lib.Seq.{drop-at, drop-append-seam, drop-drop}
 use Rattle.le.specs.Le.{bytes, part, run}
-use Rattle.le.proofs.Laws.{length-bytes, length-run, part-same, part-in, part-all}
-use Rattle.walk.specs.declared.reading.Stretch.{Stretch}
+use Rattle.le.proofs.Laws.{length-bytes, length-run, part-in, part-all}
+use Rattle.reading.specs.declared.Stretch.{Stretch}
 use Rattle.index.specs.Index.{radialsIn, perCut, startOf, countOf, cutSection, placeOf, radialSection, indexFor}
 use Rattle.index.specs.Answer.{same}
 use Rattle.index.specs.Making.{secondAt}
-use Rattle.index.proofs.Same.{not-same}
+use Rattle.index.proofs.Agree.{part-drop, differs}
 use Rattle.index.proofs.Walked.{Rising, rising-from, rising-none}
 
--- ---- an entry, where it is the next of what is to come
+-- ---- the entry that is the next of what is to come, and what follows it
 
-entry-is : (f : List ℕ) (at k : ℕ) (x y : List ℕ) → drop at f ≡ x ++ y → length x ≡ k → part k f at ≡ x
-entry-is f at k x y e l =
-    part-same k f (x ++ y) at 0 (λ i h. rw (zero-add i) (sym (getD-drop at f i 0) ∙ ap (λ (g : List ℕ). getD g i 0) e))
-    ∙ part-in k x y 0 (omega arith) ∙ part-all k x l
-
-entry-past : (f : List ℕ) (at k : ℕ) (x y : List ℕ) → drop at f ≡ x ++ y → length x ≡ k → drop (at + k) f ≡ y
-entry-past f at k x y e l = sym (drop-drop k at f) ∙ ap (drop k) e ∙ drop-at x y k l
+next-entry : (f : List ℕ) (at k : ℕ) (x y : List ℕ) → drop at f ≡ x ++ y → length x ≡ k → (part k f at ≡ x) × (drop (at + k) f ≡ y)
+next-entry f at k x y e l = (
+  ap (part k f) (sym (add-zero at)) ∙ sym (part-drop k at f 0) ∙ ap (λ (g : List ℕ). part k g 0) e ∙ part-in k x y 0 (omega arith) ∙ part-all k x l,
+  sym (drop-drop k at f) ∙ ap (drop k) e ∙ drop-at x y k l,
+)
 
 -- ---- lengths
 
@@ -40,26 +40,18 @@ pub length-start : (cuts : ℕ) → length (startOf cuts) ≡ 1
 unfolding startOf
 length-start cuts = length-bytes 1 cuts
 
-length-count : (n : ℕ) → length (countOf n) ≡ 2
-unfolding countOf bytes
-length-count n = refl
-
-length-place : (s : Stretch) → length (placeOf s) ≡ 8
-unfolding placeOf bytes
-length-place s = refl
-
 length-cuts : (cuts : ℕ) (ss : List Stretch) → length (cutSection cuts ss) ≡ secondAt cuts
-unfolding cutSection
+unfolding cutSection countOf
 length-cuts cuts ss =
     length-append (startOf cuts) (run countOf (perCut cuts 1 ss))
-    ∙ ap (λ (n : ℕ). length (startOf cuts) + n) (length-run countOf 2 length-count (perCut cuts 1 ss) ∙ ap (λ (n : ℕ). 2 * n) (length-per-cut cuts 1 ss))
+    ∙ ap (λ (n : ℕ). length (startOf cuts) + n) (length-run countOf 2 (length-bytes 2) (perCut cuts 1 ss) ∙ ap (λ (n : ℕ). 2 * n) (length-per-cut cuts 1 ss))
 
 pub length-index : (cuts : ℕ) (ss : List Stretch) → length (indexFor cuts ss) ≡ secondAt cuts + 4 + 8 * length ss
-unfolding indexFor radialSection
+unfolding indexFor radialSection placeOf
 length-index cuts ss =
     let c = length-cuts cuts ss in
     let b = length-bytes 4 (length ss) in
-    let r = length-run placeOf 8 length-place ss in
+    let r = length-run placeOf 8 (λ s. length-bytes 8 (s .start)) ss in
     simp length-append (omega arith)
 
 -- ---- counts still to come: the first of n cuts has had some radials already
@@ -101,23 +93,22 @@ module _ (cuts : ℕ) (ss : List Stretch) where
     pub rises : Rising cut rest
     pub few : count ≤ second
 
-  -- what follows the start, and what follows the first section
-  start-drop : drop (length (startOf cuts)) (indexFor cuts ss) ≡ run countOf (perCut cuts 1 ss) ++ radialSection ss
+  -- the counts with which the sections start, and what follows them
+  start-first : indexFor cuts ss ≡ startOf cuts ++ (run countOf (perCut cuts 1 ss) ++ radialSection ss)
   unfolding indexFor cutSection
-  start-drop =
-      rw (append-assoc (startOf cuts) (run countOf (perCut cuts 1 ss)) (radialSection ss))
-      (drop-append-seam (startOf cuts) (run countOf (perCut cuts 1 ss) ++ radialSection ss))
+  start-first = append-assoc (startOf cuts) (run countOf (perCut cuts 1 ss)) (radialSection ss)
 
-  second-drop : drop (secondAt cuts) (indexFor cuts ss) ≡ bytes 4 (length ss) ++ run placeOf ss
-  unfolding indexFor radialSection
-  second-drop = drop-at (cutSection cuts ss) (radialSection ss) (secondAt cuts) (length-cuts cuts ss)
-
-  -- the counts with which the sections start
   pub start-here : part (length (startOf cuts)) (indexFor cuts ss) 0 ≡ startOf cuts
-  unfolding indexFor cutSection
-  start-here =
-      entry-is (indexFor cuts ss) 0 (length (startOf cuts)) (startOf cuts) (run countOf (perCut cuts 1 ss) ++ radialSection ss)
-      (append-assoc (startOf cuts) (run countOf (perCut cuts 1 ss)) (radialSection ss)) refl
+  start-here = next-entry (indexFor cuts ss) 0 (length (startOf cuts)) (startOf cuts) _ start-first refl .0
+
+  radials-first : (part 4 (indexFor cuts ss) (secondAt cuts) ≡ bytes 4 (length ss)) × (drop (secondAt cuts + 4) (indexFor cuts ss) ≡ run placeOf ss)
+  unfolding indexFor radialSection
+  radials-first =
+      next-entry (indexFor cuts ss) (secondAt cuts) 4 (bytes 4 (length ss)) (run placeOf ss)
+      (drop-at (cutSection cuts ss) (radialSection ss) (secondAt cuts) (length-cuts cuts ss)) (length-bytes 4 (length ss))
+
+  pub radials-here : part 4 (indexFor cuts ss) (secondAt cuts) ≡ bytes 4 (length ss)
+  radials-here = radials-first .0
 
   -- a start that is the index's, and one that is another: it is one byte
   pub start-stands : (x : List ℕ) → getD x 0 0 ≡ getD (startOf cuts) 0 0 → part (length (startOf cuts)) x 0 ≡ part (length (startOf cuts)) (indexFor cuts ss) 0
@@ -126,18 +117,15 @@ module _ (cuts : ℕ) (ss : List Stretch) where
 
   pub start-differs : (x : List ℕ) → (getD x 0 0 ≡ getD (startOf cuts) 0 0 → ⊥) → same (indexFor cuts ss) x ≡ false
   unfolding startOf bytes part
-  start-differs x n = not-same (indexFor cuts ss) x (λ q. n (ap (λ (f : List ℕ). getD f 0 0) (sym q) ∙ ap (λ (f : List ℕ). getD f 0 0) start-here))
-
-  pub radials-here : part 4 (indexFor cuts ss) (secondAt cuts) ≡ bytes 4 (length ss)
-  radials-here = entry-is (indexFor cuts ss) (secondAt cuts) 4 (bytes 4 (length ss)) (run placeOf ss) second-drop (length-bytes 4 (length ss))
+  start-differs x n = differs (indexFor cuts ss) x (length (startOf cuts)) 0 (startOf cuts) start-here (λ q. n (ap (λ (f : List ℕ). getD f 0 0) q))
 
   -- before the first entry
   pub making : Rising 1 ss → Making (length (startOf cuts)) (secondAt cuts + 4) 1 0 ss
   making r =
       let n : suc cuts - 1 ≡ cuts = omega arith in
       record {
-        counts = start-drop ∙ ap (λ (l : List ℕ). run countOf l ++ radialSection ss) (sym (rw n (owed-new cuts 1 ss)));
-        places = entry-past (indexFor cuts ss) (secondAt cuts) 4 (bytes 4 (length ss)) (run placeOf ss) second-drop (length-bytes 4 (length ss));
+        counts = ap (drop (length (startOf cuts))) start-first ∙ drop-append-seam (startOf cuts) _ ∙ ap (λ (l : List ℕ). run countOf l ++ radialSection ss) (sym (rw n (owed-new cuts 1 ss)));
+        places = radials-first .1;
         low = omega arith;
         high = sym (length-index cuts ss);
         rises = r;
@@ -161,14 +149,13 @@ module _ (cuts : ℕ) (ss : List Stretch) where
       let l = m .low in
       let e : drop first (indexFor cuts ss) ≡ bytes 2 count ++ (run countOf (perCut (cuts - cut) (suc cut) rest) ++ radialSection ss) =
       m .counts ∙ rw (n, none, add-zero count) (append-assoc (bytes 2 count) (run countOf (perCut (cuts - cut) (suc cut) rest)) (radialSection ss)) in
+      let here = next-entry (indexFor cuts ss) first 2 (bytes 2 count) _ e (length-bytes 2 count) in
       record {
-        entry = entry-is (indexFor cuts ss) first 2 (bytes 2 count) _ e (length-bytes 2 count);
+        entry = here .0;
         room = omega arith;
         then =
             record {
-              counts =
-                  entry-past (indexFor cuts ss) first 2 (bytes 2 count) _ e (length-bytes 2 count)
-                  ∙ ap (λ (l : List ℕ). run countOf l ++ radialSection ss) (sym new);
+              counts = here .1 ∙ ap (λ (l : List ℕ). run countOf l ++ radialSection ss) (sym new);
               places = m .places;
               low = omega arith;
               high = m .high;
@@ -190,13 +177,14 @@ module _ (cuts : ℕ) (ss : List Stretch) where
       let up = m .rises .0 in
       let l = m .high in
       let f = m .few in
+      let here = next-entry (indexFor cuts ss) second 8 (bytes 8 (s .start)) (run placeOf rest) (m .places) (length-bytes 8 (s .start)) in
       record {
-        entry = entry-is (indexFor cuts ss) second 8 (bytes 8 (s .start)) (run placeOf rest) (m .places) (length-bytes 8 (s .start));
+        entry = here .0;
         room = omega arith;
         then =
             record {
               counts = m .counts ∙ ap (λ (l : List ℕ). run countOf l ++ radialSection ss) (fewer h);
-              places = entry-past (indexFor cuts ss) second 8 (bytes 8 (s .start)) (run placeOf rest) (m .places) (length-bytes 8 (s .start));
+              places = here .1;
               low = m .low;
               high = omega arith;
               rises = rising-from cut (s .cut) rest up (m .rises .1);

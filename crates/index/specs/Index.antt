@@ -5,8 +5,8 @@ use mathlib.Core.List.{List, [], _∷_, _++_}
 use lib.Dec.{eqb}
 use lib.ListN.{length}
 use Rattle.le.specs.Le.{bytes, run}
-use Rattle.walk.specs.declared.reading.Stretch.{Stretch}
-use Rattle.walk.specs.Reading.{stop, stretches}
+use Rattle.reading.specs.declared.Stretch.{Stretch}
+use Rattle.reading.specs.Reading.{stop, stretches}
 
 -- how many of some whole radials are of a cut ("What reading tells")
 unfoldable pub radialsIn : ℕ → List Stretch → ℕ

@@ -5,9 +5,9 @@ use mathlib.Core.Bool.{cond, _&&_}
 use mathlib.Core.List.{List}
 use lib.Dec.{leb, ltb}
 use lib.ListN.{length}
-use Rattle.walk.specs.declared.reading.Onward.{Onward}
-use Rattle.walk.specs.declared.reading.Onward.the-variants.{Whole, Stopped}
-use Rattle.walk.specs.Reading.{stop, stretches}
+use Rattle.reading.specs.declared.Onward.{Onward}
+use Rattle.reading.specs.declared.Onward.the-variants.{Whole, Stopped}
+use Rattle.reading.specs.Reading.{stop, stretches}
 use Rattle.index.specs.declared.making.Entry.{Entry}
 use Rattle.index.specs.declared.making.Entry.the-variants.{Count, Place, End}
 use Rattle.index.specs.declared.Layout.{Layout}

@@ -2,11 +2,10 @@
 ghost use mathlib.Core.Path.{_≡_};
 ghost use Rattle.index.specs.Answer.{Writes, rightFor};
 ghost use Rattle.index.specs.Making.{layoutFor, layoutOf};
-use blocks::generic::Generic;
-use blocks::site::Site;
-use blocks::task::Task;
-use walk::reading;
-use walk::reading::Verdict;
+use generic::Generic;
+use reading::Verdict;
+use site::Site;
+use task::Task;
 
 mod making;
 

@@ -5,14 +5,13 @@ ghost use mathlib.Core.Path.{_≡_};
 ghost use Prim.Native.Nat.{_%_, _≤_};
 ghost use lib.ListN.{length};
 ghost use Rattle.le.specs.Le.{patch};
-ghost use Rattle.walk.specs.Reading.{stretches};
+ghost use Rattle.reading.specs.Reading.{stretches};
 ghost use Rattle.index.specs.Answer.{same};
 ghost use Rattle.index.specs.Index.{startOf, indexFor};
 ghost use Rattle.index.specs.Making.{secondAt, entryOf};
+use reading::Onward;
+use reading::Stretch;
 use walk::due::Walk;
-use walk::reading;
-use walk::reading::Onward;
-use walk::reading::Stretch;
 
 enum Entry {
     // The count of a cut that has no further radial.

@@ -14,7 +14,7 @@ pub struct Lent {
 }
 
 // A refusal hands the old tally back.
-pub fn tally_told(old: Tally, file: &[u8], cut: u32, t: u32) -> Lent
+fn tally_told(old: Tally, file: &[u8], cut: u32, t: u32) -> Lent
     ensures { λ r. ⌜ r ≡ lentOf old (tallyAnswer (now (file .entry)) cut t) ⌝ }
 {
     match tallies::tally_of(file, cut, t) {

@@ -1,6 +1,5 @@
 // Prints the listing of the file on standard input (document 01, the listing program).
 use libc::STDIN_FILENO;
-use walk::reading;
 
 // A longer file is cut to the buffer's 65,536 bytes.
 fn main() {

@@ -9,12 +9,12 @@ use Rattle.moments.specs.declared.Ahead.{Ahead}
 use Rattle.moments.specs.declared.Ahead.the-variants as ahead
 use Rattle.moments.specs.Moments.{momentsFrom, momentsAt, aheadOf}
 use Rattle.moments.proofs.Laws.{there, end}
-use Rattle.walk.specs.declared.reading.Onward.{Onward}
-use Rattle.walk.specs.declared.reading.Onward.the-variants.{Whole, Stopped}
-use Rattle.walk.specs.declared.reading.Stretch.{Stretch}
-use Rattle.walk.specs.Growth.{bytesOf}
-use Rattle.walk.specs.Reading.{trace, fuel, advanceOf}
-use Rattle.walk.proofs.Loops.{further, no-more}
+use Rattle.reading.specs.declared.Onward.{Onward}
+use Rattle.reading.specs.declared.Onward.the-variants.{Whole, Stopped}
+use Rattle.reading.specs.declared.Stretch.{Stretch}
+use Rattle.reading.specs.Growth.{bytesOf}
+use Rattle.reading.specs.Reading.{trace, fuel, advanceOf}
+use Rattle.reading.proofs.Loops.{further, no-more}
 use Rattle.listing.specs.declared.Cursor.{Cursor}
 use Rattle.listing.specs.declared.Line.{Line}
 use Rattle.listing.specs.declared.Next.{Next}

@@ -1,18 +1,18 @@
 -- The listing of a file: its lines as their numbers, and the way from line to line. The places cited are document 01's.
 use Prim.Native.Nat.{ℕ, zero, suc, _+_, _/_}
 use mathlib.Core.List.{List, [], _∷_, map, flatMap}
-use Rattle.blocks.specs.Moment.{momentAt}
-use Rattle.blocks.specs.Radial.{radialAt}
+use Rattle.moment.specs.Moment.{momentAt}
+use Rattle.radial.specs.Radial.{radialAt}
 use Rattle.moments.specs.declared.Ahead.{Ahead}
 use Rattle.moments.specs.declared.Ahead.the-variants as ahead
 use Rattle.moments.specs.Moments.{firstOf, momentsOf, aheadOf}
 use Rattle.walk.specs.declared.due.Walk.{Walk}
-use Rattle.walk.specs.declared.reading.Onward.{Onward}
-use Rattle.walk.specs.declared.reading.Onward.the-variants.{Whole, Stopped}
-use Rattle.walk.specs.declared.reading.Stretch.{Stretch}
+use Rattle.reading.specs.declared.Onward.{Onward}
+use Rattle.reading.specs.declared.Onward.the-variants.{Whole, Stopped}
+use Rattle.reading.specs.declared.Stretch.{Stretch}
 use Rattle.walk.specs.Due.{atStart}
-use Rattle.walk.specs.Growth.{bytesOf}
-use Rattle.walk.specs.Reading.{stretches, advanceOf}
+use Rattle.reading.specs.Growth.{bytesOf}
+use Rattle.reading.specs.Reading.{stretches, advanceOf}
 use Rattle.listing.specs.declared.Cursor.{Cursor}
 use Rattle.listing.specs.declared.Line.{Line}
 use Rattle.listing.specs.declared.Line.the-variants as line

@@ -2,16 +2,15 @@
 // the listing program): every whole radial, each with its moments behind it.
 ghost use mathlib.Core.Path.{_≡_};
 ghost use Prim.Native.Nat.{_+_, _<_, _^_};
-ghost use Rattle.walk.specs.Growth.{bytesOf};
+ghost use Rattle.reading.specs.Growth.{bytesOf};
 ghost use Rattle.listing.specs.Listing.{radialLine, gatesIn, momentLine, atBegin, radialNext, lineOf};
-use blocks::moment::Moment;
-use blocks::radial::Radial;
+use moment::Moment;
 use moments::Ahead;
 use moments::Place;
+use radial::Radial;
+use reading::Onward;
+use reading::Stretch;
 use walk::due::Walk;
-use walk::reading;
-use walk::reading::Onward;
-use walk::reading::Stretch;
 
 // A line's numbers, in the order in which they are printed.
 pub enum Line {

@@ -10,8 +10,8 @@ use lib.ListN.{length}
 use borrow.Author.Tests.{leb-true, eqb-true, eqb-false}
 use Rattle.le.specs.Le.{le}
 use Rattle.le.proofs.Laws.{le-part}
-use Rattle.blocks.specs.Moment.{momentOf, momentAt}
-use Rattle.blocks.specs.Radial.{radialOf, radialAt}
+use Rattle.moment.specs.Moment.{momentOf, momentAt}
+use Rattle.radial.specs.Radial.{radialOf, radialAt}
 use Rattle.moments.specs.declared.Place.{Place}
 use Rattle.moments.specs.declared.Ahead.{Ahead}
 use Rattle.moments.specs.declared.Ahead.the-variants.{There, End}

@@ -5,8 +5,8 @@ use mathlib.Core.Bool.{cond}
 use mathlib.Core.List.{List, [], _∷_}
 use lib.Dec.{eqb, leb}
 use lib.ListN.{length, take, drop}
-use Rattle.blocks.specs.Moment.{momentAt}
-use Rattle.blocks.specs.Radial.{radialAt}
+use Rattle.moment.specs.Moment.{momentAt}
+use Rattle.radial.specs.Radial.{radialAt}
 use Rattle.moments.specs.declared.Place.{Place}
 use Rattle.moments.specs.declared.Ahead.{Ahead}
 use Rattle.moments.specs.declared.Ahead.the-variants.{There, End}

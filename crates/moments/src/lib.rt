@@ -3,10 +3,10 @@
 ghost use mathlib.Core.Path.{_≡_};
 ghost use Prim.Native.Nat.{_+_, _≤_};
 ghost use lib.ListN.{length};
-ghost use Rattle.blocks.specs.Moment.{momentAt};
+ghost use Rattle.moment.specs.Moment.{momentAt};
 ghost use Rattle.moments.specs.Moments.{firstOf, aheadOf, findIn, momentsOf, dataAt};
-use blocks::moment::Moment;
-use blocks::radial::Radial;
+use moment::Moment;
+use radial::Radial;
 
 // The moments still to come, and where the header of the next one is sought.
 pub struct Place {

@@ -2,9 +2,8 @@
 // verdict, the bytes read and the whole radials.
 ghost use Prim.Native.Nat.{_≤_};
 use libc::STDOUT_FILENO;
-use walk::reading;
-use walk::reading::Reading;
-use walk::reading::Verdict;
+use reading::Reading;
+use reading::Verdict;
 
 // The blocks before the radials of the small volume. Here and below, a byte that no rule asks for is 0.
 fn front_byte(at: usize) -> u8 {

@@ -3,8 +3,8 @@ use libc::STDOUT_FILENO;
 use listing::Cursor;
 use listing::Line;
 use listing::Next;
-use walk::reading::Reading;
-use walk::reading::Verdict;
+use reading::Reading;
+use reading::Verdict;
 
 pub fn word(text: &[u8]) {
     io::write_all(STDOUT_FILENO, text);

@@ -15,8 +15,8 @@ use ask::answers::RadialAnswer;
 use ask::tallies;
 use ask::tallies::Tally;
 use ask::tallies::TallyAnswer;
-use blocks::moment::Moment;
-use blocks::radial::Radial;
+use moment::Moment;
+use radial::Radial;
 
 pub enum Question {
     Moments,

@@ -13,7 +13,6 @@ use crate::print::newline;
 use crate::print::number;
 use crate::print::word;
 use libc::STDIN_FILENO;
-use walk::reading;
 
 // The sequence numbers asked are those below this: to one past the last whole radial, and at most to 9.
 fn end_of(radials: usize) -> u32 {

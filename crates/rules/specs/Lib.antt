@@ -1,3 +1,4 @@
+pub mod Check
 pub mod Ranges
 pub mod States
 pub mod Moments

@@ -1,5 +1,6 @@
-// What a field may hold: each rule of document 01's table on the field's bits, decided by the ranges of its number.
-pub mod angles;
+// What a field may hold, and how a list of rules is judged (document 01, "Field rules and refusal numbers"): each rule on
+// the field's bits, decided by the ranges of its number.
+pub mod check;
 pub mod moments;
 pub mod ranges;
 pub mod states;

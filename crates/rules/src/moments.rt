@@ -18,7 +18,7 @@ pub fn moment_number_ok(left: u32, x: u32) -> bool
 }
 
 // Whether a mask has the bit of type t.
-pub fn bit(mask: u64, t: u32) -> bool
+fn bit(mask: u64, t: u32) -> bool
     ensures { λ r. ⌜ r ≡ bitOf mask t ⌝ }
 {
     match t {

@@ -27,7 +27,7 @@ pub fn cut_number_ok(scan: u32, x: u32) -> bool
     }
 }
 
-pub fn opening(scan: u32, cut: u32) -> u32
+fn opening(scan: u32, cut: u32) -> u32
     ensures { λ r. ⌜ r ≡ openingOf scan cut ⌝ }
 {
     if cut <= 1 {

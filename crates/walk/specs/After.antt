@@ -4,8 +4,8 @@ use mathlib.Core.Bool.{Bool, not, cond, _&&_}
 use lib.Dec.{eqb, leb, ltb}
 use Rattle.rules.specs.Moments.{withBit}
 use Rattle.rules.specs.States.{closing}
-use Rattle.blocks.specs.declared.moment.Moment.{Moment}
-use Rattle.blocks.specs.declared.radial.Radial.{Radial}
+use Rattle.moment.specs.declared.Moment.{Moment}
+use Rattle.radial.specs.declared.Radial.{Radial}
 use Rattle.walk.specs.declared.due.Due.the-variants as due
 use Rattle.walk.specs.declared.due.Walk.{Walk}
 use Rattle.walk.specs.Due.{dueIf}

@@ -2,8 +2,8 @@
 use Prim.Native.Nat.{ℕ, _+_, _-_, _*_}
 use mathlib.Core.Bool.{Bool, true, false}
 use lib.Dec.{eqb}
-use Rattle.blocks.specs.declared.radial.RadialDue.{RadialDue}
-use Rattle.blocks.specs.declared.moment.MomentDue.{MomentDue}
+use Rattle.radial.specs.declared.RadialDue.{RadialDue}
+use Rattle.moment.specs.declared.MomentDue.{MomentDue}
 use Rattle.walk.specs.declared.due.Due.{Due}
 use Rattle.walk.specs.declared.due.Due.the-variants as due
 use Rattle.walk.specs.declared.due.Walk.{Walk}

@@ -1,6 +1,2 @@
 pub mod Due
 pub mod After
-pub mod Step
-pub mod Reading
-pub mod Growth
-pub mod Tiling

@@ -9,11 +9,11 @@ use crate::due::Plan;
 use crate::due::Present;
 use crate::due::Rest;
 use crate::due::Walk;
-use blocks::moment::Moment;
-use blocks::radial::Radial;
-use blocks::task::Task;
+use moment::Moment;
+use radial::Radial;
 use rules::moments;
 use rules::states;
+use task::Task;
 
 // a less b, and 0 where b is more.
 fn less(a: usize, b: usize) -> usize

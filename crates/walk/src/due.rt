@@ -1,14 +1,14 @@
 // Which block is due, where, and what the blocks before it have settled.
 ghost use mathlib.Core.Path.{_≡_};
 ghost use Rattle.walk.specs.Due.{sizeAt, isEnd, endsRadial, atStart, radialDue, momentDue, cutPlace};
-use blocks::cut::Cut;
-use blocks::generic::Generic;
-use blocks::moment::Moment;
-use blocks::moment::MomentDue;
-use blocks::radial::Radial;
-use blocks::radial::RadialDue;
-use blocks::site::Site;
-use blocks::task::Task;
+use cut::Cut;
+use generic::Generic;
+use moment::Moment;
+use moment::MomentDue;
+use radial::Radial;
+use radial::RadialDue;
+use site::Site;
+use task::Task;
 
 pub enum Due {
     Generic,

@@ -11,11 +11,11 @@ use Rattle.le.proofs.Laws.{length-part, length-patch, part-patch}
 use Rattle.walk.specs.declared.due.Due.{Due}
 use Rattle.walk.specs.declared.due.Due.the-variants as due
 use Rattle.walk.specs.declared.due.Walk.{Walk}
-use Rattle.walk.specs.declared.step.Step.the-variants as step
+use Rattle.reading.specs.declared.step.Step.the-variants as step
 use Rattle.walk.specs.Due.{sizeAt, sizeOf, cutPlace}
-use Rattle.walk.specs.Reading.{stop}
-use Rattle.walk.specs.Step.{blockAt, stepOf}
-use Rattle.walk.proofs.Run.{is-here, taken}
+use Rattle.reading.specs.Reading.{stop}
+use Rattle.reading.specs.Step.{blockAt, stepOf}
+use Rattle.reading.proofs.Run.{is-here, taken}
 use Rattle.writer.specs.Agree.{written, Agrees}
 use Rattle.writer.specs.Block.{Block, saysOf, lengthOf, bytesOf}
 use Rattle.writer.specs.Put.{checked, Outcome, put}

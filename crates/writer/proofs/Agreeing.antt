@@ -11,12 +11,12 @@ use Rattle.le.specs.Le.{patch}
 use Rattle.le.proofs.Laws.{length-patch}
 use Rattle.walk.specs.declared.due.Due.{Due}
 use Rattle.walk.specs.declared.due.Walk.{Walk}
-use Rattle.walk.specs.declared.step.Step.{Step}
-use Rattle.walk.specs.declared.step.Step.the-variants as step
+use Rattle.reading.specs.declared.step.Step.{Step}
+use Rattle.reading.specs.declared.step.Step.the-variants as step
 use Rattle.walk.specs.Due.{sizeAt, sizeOf, isEnd}
-use Rattle.walk.specs.Reading.{stop}
-use Rattle.walk.specs.Step.{blockAt, stepOf}
-use Rattle.walk.proofs.Run.{Plain, took, refused, is-here, taken}
+use Rattle.reading.specs.Reading.{stop}
+use Rattle.reading.specs.Step.{blockAt, stepOf}
+use Rattle.reading.proofs.Run.{Plain, took, refused, is-here, taken}
 use Rattle.writer.specs.declared.order.Answer.{Answer}
 use Rattle.writer.specs.declared.order.Answer.the-variants.{Taken, Refused}
 use Rattle.writer.specs.Agree.{written, Agrees, agrees}

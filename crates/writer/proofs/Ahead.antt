@@ -9,21 +9,21 @@ use lib.ListN.{length}
 use mir.Syntax.{w32}
 use Rattle.rules.specs.Moments.{lengthOk}
 use Rattle.rules.proofs.Numbers.{below}
-use Rattle.blocks.specs.declared.check.Check.{Check}
-use Rattle.blocks.specs.declared.check.Check.the-variants.{Fine, Broken}
-use Rattle.blocks.specs.declared.moment.Moment.{Moment}
-use Rattle.blocks.specs.Moment.{momentCheck, momentRules}
-use Rattle.blocks.proofs.Judged.{all-hold}
+use Rattle.rules.specs.declared.check.Check.{Check}
+use Rattle.rules.specs.declared.check.Check.the-variants.{Fine, Broken}
+use Rattle.moment.specs.declared.Moment.{Moment}
+use Rattle.moment.specs.Moment.{momentCheck, momentRules}
+use Rattle.rules.proofs.Judged.{all-hold}
 use Rattle.walk.specs.declared.due.Due.{Due}
 use Rattle.walk.specs.declared.due.Due.the-variants as due
 use Rattle.walk.specs.declared.due.Walk.{Walk}
-use Rattle.walk.specs.declared.step.Step.the-variants.{Took}
+use Rattle.reading.specs.declared.step.Step.the-variants.{Took}
 use Rattle.walk.specs.Due.{sizeAt, isEnd, dueIf, momentDue}
 use Rattle.walk.specs.After.{afterCut, afterData, afterDataIf, closesCut}
-use Rattle.walk.specs.Step.{settle, takeGeneric, takeSite, takeTask, takeCut, takeRadial, takeMoment, takeData, blockAt, stepOf}
-use Rattle.walk.specs.Reading.{last, fuel, stop}
-use Rattle.walk.proofs.Run.{settle-took, took-inj, taken, stays, View, here, short, over, done, view, is-short, is-done, run-step, run-stays, enough}
-use Rattle.walk.proofs.Growing.{through}
+use Rattle.reading.specs.Step.{settle, takeGeneric, takeSite, takeTask, takeCut, takeRadial, takeMoment, takeData, blockAt, stepOf}
+use Rattle.reading.specs.Reading.{last, fuel, stop}
+use Rattle.reading.proofs.Run.{settle-took, took-inj, taken, stays, View, here, short, over, done, view, is-short, is-done, run-step, run-stays, enough}
+use Rattle.reading.proofs.Growing.{through}
 
 -- a block that is due here has a byte
 unfoldable Some : Due → Walk → Type 0

@@ -6,11 +6,11 @@ use mathlib.Core.List.{List}
 use lib.ListN.{length, take}
 use Rattle.le.specs.Le.{Bytes}
 use Rattle.walk.specs.declared.due.Walk.{Walk}
-use Rattle.walk.specs.declared.step.Step.the-variants.{Took}
+use Rattle.reading.specs.declared.step.Step.the-variants.{Took}
 use Rattle.walk.specs.Due.{atStart}
-use Rattle.walk.specs.Reading.{walkOn, last, fuel, stop}
-use Rattle.walk.specs.Step.{stepOf}
-use Rattle.walk.proofs.Run.{Goes, on, off, goes, taken, run-took, run-stays}
+use Rattle.reading.specs.Reading.{walkOn, last, fuel, stop}
+use Rattle.reading.specs.Step.{stepOf}
+use Rattle.reading.proofs.Run.{Goes, on, off, goes, taken, run-took, run-stays}
 use Rattle.writer.specs.Agree.{written, Agrees}
 use Rattle.writer.specs.Put.{Outcome, put}
 use Rattle.writer.specs.Trips.{blockIn, FromFile, Copies, begun, next, CopyOf}

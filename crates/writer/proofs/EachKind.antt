@@ -9,27 +9,26 @@ use borrow.Author.Tests.{eq-eqb, eqb-true}
 use lib.ListN.{length, take}
 use Rattle.le.specs.Le.{part, Bytes}
 use Rattle.le.proofs.Laws.{length-part, part-bytes}
-use Rattle.blocks.specs.declared.check.Check.{Check}
-use Rattle.blocks.specs.declared.check.Check.the-variants.{Fine, Broken}
-use Rattle.blocks.specs.Cut.{cutOf, cutAt}
-use Rattle.blocks.specs.Generic.{genericOf, genericAt}
-use Rattle.blocks.specs.Moment.{momentOf, momentAt}
-use Rattle.blocks.specs.Radial.{radialOf, radialAt}
-use Rattle.blocks.specs.Site.{siteOf, siteAt}
-use Rattle.blocks.specs.Task.{taskOf, taskAt}
-use Rattle.blocks.proofs.Sizes.{length-generic, length-site, length-task, length-cut, length-radial, length-moment}
-use Rattle.blocks.proofs.Trips.Generic as generic-trip
-use Rattle.blocks.proofs.Trips.Site as site-trip
-use Rattle.blocks.proofs.Trips.Task as task-trip
-use Rattle.blocks.proofs.Trips.Cut as cut-trip
-use Rattle.blocks.proofs.Trips.Radial as radial-trip
-use Rattle.blocks.proofs.Trips.Moment as moment-trip
+use Rattle.rules.specs.declared.check.Check.{Check}
+use Rattle.rules.specs.declared.check.Check.the-variants.{Fine, Broken}
+use Rattle.cut.specs.Cut.{cutOf, cutAt}
+use Rattle.generic.specs.Generic.{genericOf, genericAt}
+use Rattle.moment.specs.Moment.{momentOf, momentAt}
+use Rattle.radial.specs.Radial.{radialOf, radialAt}
+use Rattle.site.specs.Site.{siteOf, siteAt}
+use Rattle.task.specs.Task.{taskOf, taskAt}
+use Rattle.generic.proofs.Trips as generic-trip
+use Rattle.site.proofs.Trips as site-trip
+use Rattle.task.proofs.Trips as task-trip
+use Rattle.cut.proofs.Trips as cut-trip
+use Rattle.radial.proofs.Trips as radial-trip
+use Rattle.moment.proofs.Trips as moment-trip
 use Rattle.walk.specs.declared.due.Due.{Due}
 use Rattle.walk.specs.declared.due.Due.the-variants as due
 use Rattle.walk.specs.declared.due.Walk.{Walk}
 use Rattle.walk.specs.Due.{sizeAt, isEnd, cutPlace}
-use Rattle.walk.specs.Step.{settle, takeGeneric, takeSite, takeTask, takeCut, takeRadial, takeMoment, takeData, blockAt}
-use Rattle.walk.proofs.Run.{Plain, took, refused}
+use Rattle.reading.specs.Step.{settle, takeGeneric, takeSite, takeTask, takeCut, takeRadial, takeMoment, takeData, blockAt}
+use Rattle.reading.proofs.Run.{Plain, took, refused}
 use Rattle.writer.specs.Block.{Block, generic, site, task, cut, radial, moment, «data», kindOf, saysOf, fitsOf, lengthOf, bytesOf}
 use Rattle.writer.specs.Trips.{Fits, blockIn}
 use Rattle.writer.proofs.Bytes.{part-take}
@@ -45,12 +44,12 @@ going (moment r) = refl
 going («data» bs) = refl
 
 pub long : (b : Block) → Fits b → length (bytesOf b) ≡ lengthOf b
-long (generic r) h = length-generic r h
-long (site r) h = length-site r h
-long (task r) h = length-task r h
-long (cut r) h = length-cut r h
-long (radial r) h = length-radial r h
-long (moment r) h = length-moment r h
+long (generic r) h = generic-trip.length-is r h
+long (site r) h = site-trip.length-is r h
+long (task r) h = task-trip.length-is r h
+long (cut r) h = cut-trip.length-is r h
+long (radial r) h = radial-trip.length-is r h
+long (moment r) h = moment-trip.length-is r h
 long («data» bs) h = refl
 
 -- its length is what is due

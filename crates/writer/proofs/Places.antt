@@ -10,12 +10,12 @@ use lib.ListN.{length}
 use Rattle.walk.specs.declared.due.Due.{Due}
 use Rattle.walk.specs.declared.due.Due.the-variants as due
 use Rattle.walk.specs.declared.due.Walk.{Walk}
-use Rattle.walk.specs.declared.step.Step.the-variants.{Took}
+use Rattle.reading.specs.declared.step.Step.the-variants.{Took}
 use Rattle.walk.specs.Due.{dueIf, atStart, cutPlace}
 use Rattle.walk.specs.After.{afterCut, afterData, afterDataIf, closesCut}
-use Rattle.walk.specs.Step.{takeGeneric, takeSite, takeTask, takeCut, takeRadial, takeMoment, takeData, blockAt}
-use Rattle.walk.specs.Reading.{walkOn, last, fuel, stop}
-use Rattle.walk.proofs.Run.{settle-took, took-inj, taken, Goes, on, off, goes, run-took, run-stays}
+use Rattle.reading.specs.Step.{takeGeneric, takeSite, takeTask, takeCut, takeRadial, takeMoment, takeData, blockAt}
+use Rattle.reading.specs.Reading.{walkOn, last, fuel, stop}
+use Rattle.reading.proofs.Run.{settle-took, took-inj, taken, Goes, on, off, goes, run-took, run-stays}
 
 -- the cuts' blocks: those behind where radials come, and those still to come
 record Behind (w : Walk) : Type 0 where

@@ -9,14 +9,14 @@ use lib.ListN.{length}
 use borrow.Author.Tests.{le-leb, leb-true, le-ltb, ltb-false}
 use Rattle.le.specs.Le.{stored}
 use Rattle.le.proofs.Laws.{stored-in}
-use Rattle.blocks.specs.declared.check.Check.{Check}
-use Rattle.blocks.specs.declared.check.Check.the-variants.{Fine, Broken}
+use Rattle.rules.specs.declared.check.Check.{Check}
+use Rattle.rules.specs.declared.check.Check.the-variants.{Fine, Broken}
 use Rattle.walk.specs.declared.due.Due.{Due}
 use Rattle.walk.specs.declared.due.Walk.{Walk}
-use Rattle.walk.specs.declared.step.Step.{Step}
-use Rattle.walk.specs.declared.step.Step.the-variants as step
+use Rattle.reading.specs.declared.step.Step.{Step}
+use Rattle.reading.specs.declared.step.Step.the-variants as step
 use Rattle.walk.specs.Due.{isEnd}
-use Rattle.walk.specs.Step.{settle}
+use Rattle.reading.specs.Step.{settle}
 use Rattle.writer.specs.declared.order.Answer.{Answer}
 use Rattle.writer.specs.declared.order.Answer.the-variants.{Taken, Refused}
 use Rattle.writer.specs.declared.order.Put.{Put}

@@ -10,9 +10,9 @@ use Rattle.walk.specs.declared.due.Due.{Due}
 use Rattle.walk.specs.declared.due.Due.the-variants as due
 use Rattle.walk.specs.declared.due.Walk.{Walk}
 use Rattle.walk.specs.Due.{sizeAt, isEnd, atStart}
-use Rattle.walk.specs.Reading.{stop, fuel, endingTold}
-use Rattle.walk.specs.Step.{blockAt, takeData}
-use Rattle.walk.proofs.Run.{stays, View, here, short, over, done, view, is-here, is-short, is-done, run-stays, last-off, enough}
+use Rattle.reading.specs.Reading.{stop, fuel, endingTold}
+use Rattle.reading.specs.Step.{blockAt, takeData}
+use Rattle.reading.proofs.Run.{stays, View, here, short, over, done, view, is-here, is-short, is-done, run-stays, last-off, enough}
 use Rattle.writer.specs.Agree.{written, Agrees}
 use Rattle.writer.specs.Trips.{Run, fresh, more, Ends, isComplete, isOpen, ReadBack}
 use Rattle.writer.proofs.Agreeing.{keeps}

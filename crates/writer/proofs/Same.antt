@@ -16,7 +16,7 @@ use Rattle.walk.specs.declared.due.Plan.{Plan}
 use Rattle.walk.specs.declared.due.Present.{Present}
 use Rattle.walk.specs.declared.due.Rest.{Rest}
 use Rattle.walk.specs.declared.due.Walk.{Walk}
-use Rattle.walk.specs.Reading.{stop}
+use Rattle.reading.specs.Reading.{stop}
 use Rattle.writer.specs.Agree.{rankOf, sameKind, samePlan, sameCount, samePresent, sameRest, sameWalk, written, Agrees, Disagrees, tooFew, unended, other, agrees, TestsAgreement}
 
 -- ---- two tests that hold together

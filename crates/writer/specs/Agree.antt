@@ -12,7 +12,7 @@ use Rattle.walk.specs.declared.due.Plan.{Plan}
 use Rattle.walk.specs.declared.due.Present.{Present}
 use Rattle.walk.specs.declared.due.Rest.{Rest}
 use Rattle.walk.specs.declared.due.Walk.{Walk}
-use Rattle.walk.specs.Reading.{stop}
+use Rattle.reading.specs.Reading.{stop}
 
 -- a number for each kind of block, and for none: two kinds are the same where their numbers are ("Blocks")
 unfoldable pub rankOf : Due → ℕ

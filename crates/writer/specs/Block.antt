@@ -4,23 +4,23 @@ use mathlib.Core.Bool.{Bool, true}
 use mathlib.Core.List.{List}
 use lib.Dec.{eqb}
 use lib.ListN.{length}
-use Rattle.blocks.specs.declared.cut.Cut.{Cut}
-use Rattle.blocks.specs.declared.generic.Generic.{Generic}
-use Rattle.blocks.specs.declared.moment.Moment.{Moment}
-use Rattle.blocks.specs.declared.radial.Radial.{Radial}
-use Rattle.blocks.specs.declared.site.Site.{Site}
-use Rattle.blocks.specs.declared.task.Task.{Task}
-use Rattle.blocks.specs.Cut.{cutBytes}
-use Rattle.blocks.specs.Generic.{genericBytes}
-use Rattle.blocks.specs.Moment.{momentBytes}
-use Rattle.blocks.specs.Radial.{radialBytes}
-use Rattle.blocks.specs.Site.{siteBytes}
-use Rattle.blocks.specs.Task.{taskBytes}
+use Rattle.cut.specs.declared.Cut.{Cut}
+use Rattle.generic.specs.declared.Generic.{Generic}
+use Rattle.moment.specs.declared.Moment.{Moment}
+use Rattle.radial.specs.declared.Radial.{Radial}
+use Rattle.site.specs.declared.Site.{Site}
+use Rattle.task.specs.declared.Task.{Task}
+use Rattle.cut.specs.Cut.{cutBytes}
+use Rattle.generic.specs.Generic.{genericBytes}
+use Rattle.moment.specs.Moment.{momentBytes}
+use Rattle.radial.specs.Radial.{radialBytes}
+use Rattle.site.specs.Site.{siteBytes}
+use Rattle.task.specs.Task.{taskBytes}
 use Rattle.walk.specs.declared.due.Due.{Due}
 use Rattle.walk.specs.declared.due.Due.the-variants as due
 use Rattle.walk.specs.declared.due.Walk.{Walk}
-use Rattle.walk.specs.declared.step.Step.{Step}
-use Rattle.walk.specs.Step.{takeGeneric, takeSite, takeTask, takeCut, takeRadial, takeMoment, takeData, cutIn}
+use Rattle.reading.specs.declared.step.Step.{Step}
+use Rattle.reading.specs.Step.{takeGeneric, takeSite, takeTask, takeCut, takeRadial, takeMoment, takeData, cutIn}
 
 -- one of the seven that a volume is made of ("Blocks")
 pub data Block : Type 0 where

@@ -8,8 +8,8 @@ use lib.ListN.{length}
 use Rattle.le.specs.Le.{patch}
 use Rattle.walk.specs.declared.due.Due.{Due}
 use Rattle.walk.specs.declared.due.Walk.{Walk}
-use Rattle.walk.specs.declared.step.Step.{Step}
-use Rattle.walk.specs.declared.step.Step.the-variants as step
+use Rattle.reading.specs.declared.step.Step.{Step}
+use Rattle.reading.specs.declared.step.Step.the-variants as step
 use Rattle.walk.specs.Due.{isEnd}
 use Rattle.writer.specs.declared.order.Answer.{Answer}
 use Rattle.writer.specs.declared.order.Answer.the-variants.{Taken, Refused}

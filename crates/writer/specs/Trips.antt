@@ -5,20 +5,20 @@ use mathlib.Core.List.{List, [], _∷_, _++_}
 use mathlib.Core.Path.{_≡_}
 use lib.ListN.{length, take}
 use Rattle.le.specs.Le.{Bytes, part, patch}
-use Rattle.blocks.specs.Cut.{cutAt, CutFits}
-use Rattle.blocks.specs.Generic.{genericAt, GenericFits}
-use Rattle.blocks.specs.Moment.{momentAt, MomentFits}
-use Rattle.blocks.specs.Radial.{radialAt, RadialFits}
-use Rattle.blocks.specs.Site.{siteAt, SiteFits}
-use Rattle.blocks.specs.Task.{taskAt, TaskFits}
+use Rattle.cut.specs.Cut.{cutAt, CutFits}
+use Rattle.generic.specs.Generic.{genericAt, GenericFits}
+use Rattle.moment.specs.Moment.{momentAt, MomentFits}
+use Rattle.radial.specs.Radial.{radialAt, RadialFits}
+use Rattle.site.specs.Site.{siteAt, SiteFits}
+use Rattle.task.specs.Task.{taskAt, TaskFits}
 use Rattle.walk.specs.declared.due.Due.{Due}
 use Rattle.walk.specs.declared.due.Due.the-variants as due
 use Rattle.walk.specs.declared.due.Walk.{Walk}
-use Rattle.walk.specs.declared.step.Step.the-variants as step
+use Rattle.reading.specs.declared.step.Step.the-variants as step
 use Rattle.walk.specs.Due.{sizeOf, atStart}
-use Rattle.walk.specs.Growth.{told}
-use Rattle.walk.specs.Reading.{stop}
-use Rattle.walk.specs.Step.{stepOf}
+use Rattle.reading.specs.Growth.{told}
+use Rattle.reading.specs.Reading.{stop}
+use Rattle.reading.specs.Step.{stepOf}
 use Rattle.writer.specs.declared.order.Answer.the-variants.{Taken}
 use Rattle.writer.specs.Agree.{written, Agrees}
 use Rattle.writer.specs.Block.{Block, generic, site, task, cut, radial, moment, «data», kindOf, lengthOf, bytesOf}

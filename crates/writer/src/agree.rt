@@ -1,16 +1,16 @@
 // Whether a state and a room agree: whether reading what the state counts as written stops at that state.
 ghost use mathlib.Core.Path.{_≡_};
 ghost use mathlib.Core.Bool.{_&&_};
-ghost use Rattle.walk.specs.Reading.{stop};
+ghost use Rattle.reading.specs.Reading.{stop};
 ghost use Rattle.writer.specs.Agree.{samePlan, sameCount, samePresent, sameRest, sameWalk, agrees as agreesOf};
 use crate::order::rank;
+use reading::Onward;
+use reading::advance;
 use walk::due::Count;
 use walk::due::Plan;
 use walk::due::Present;
 use walk::due::Rest;
 use walk::due::Walk;
-use walk::reading::Onward;
-use walk::reading::advance;
 
 fn both(a: bool, b: bool) -> bool
     ensures { λ r. ⌜ r ≡ a && b ⌝ }

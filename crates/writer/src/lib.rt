@@ -17,12 +17,12 @@ use crate::on::site_on;
 use crate::on::task_on;
 use crate::order::Put;
 use crate::order::refused;
-use blocks::cut::Cut;
-use blocks::generic::Generic;
-use blocks::moment::Moment;
-use blocks::radial::Radial;
-use blocks::site::Site;
-use blocks::task::Task;
+use cut::Cut;
+use generic::Generic;
+use moment::Moment;
+use radial::Radial;
+use site::Site;
+use task::Task;
 use walk::due::Walk;
 
 pub fn put_generic(w: Walk, room: &mut [u8], r: Generic) -> Put

@@ -1,11 +1,11 @@
 // What the writer answers, and the order of its refusals (document 01, "Writing").
 ghost use mathlib.Core.Path.{_≡_};
 ghost use Prim.Native.Nat.{_<_, _^_};
-ghost use Rattle.walk.specs.Step.{settle};
+ghost use Rattle.reading.specs.Step.{settle};
 ghost use Rattle.writer.specs.declared.order.Answer.the-variants.{Taken, Refused};
 ghost use Rattle.writer.specs.Agree.{rankOf};
 ghost use Rattle.writer.specs.Put.{lastTests, answerTo};
-use blocks::check::Check;
+use rules::check::Check;
 use walk::due::Due;
 use walk::due::Walk;
 use walk::due::is_end;

@@ -17,7 +17,6 @@ use index::Answer;
 use printing::number;
 use printing::word;
 use walk::due::Walk;
-use walk::reading;
 
 // The index of a file, whether it is right, and whether it is with one byte changed.
 fn print_index(file: &[u8]) {

@@ -1,11 +1,11 @@
 // The records that the program hands to the writer: all zeros but for the fields that a rule asks for, and a few more.
 ghost use Prim.Native.Nat.{_≤_};
-use blocks::cut::Cut;
-use blocks::generic::Generic;
-use blocks::moment::Moment;
-use blocks::radial::Radial;
-use blocks::site::Site;
-use blocks::task::Task;
+use cut::Cut;
+use generic::Generic;
+use moment::Moment;
+use radial::Radial;
+use site::Site;
+use task::Task;
 
 pub fn generic() -> Generic {
     let mut r = Generic::read(b"", 0);

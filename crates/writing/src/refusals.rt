@@ -8,10 +8,10 @@ use crate::telling::sum;
 use crate::volumes::put_front;
 use crate::volumes::put_pair;
 use crate::volumes::put_start;
-use blocks::radial::Radial;
 use index::Answer;
 use printing::number;
 use printing::word;
+use radial::Radial;
 use walk::due::Walk;
 
 // The first radial of a volume, with one moment of one-byte gates.

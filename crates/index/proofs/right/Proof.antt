@@ -8,7 +8,7 @@ use borrow.Author.Needs.{needs}
 use lib.ListN.{length}
 use Rattle.index.specs.Index.{indexOf}
 use Rattle.index.specs.Answer.{same, rightFor}
-use Rattle.index.proofs.Layouts.{Laid, laid, short, unfinished}
+use Rattle.index.proofs.Layouts.{Laid, says}
 use Rattle.index.proofs.Same.{not-same}
 use Rattle.index.proofs.right.Statement.{statement}
 use Rattle.index.proofs.right.Tie as tie
@@ -18,7 +18,7 @@ other-length x y n = not-same x y (λ e. n (ap length e))
 
 fits : (c : tie.After-known-told) → let a = c .before .before .before .before .before .before .args in
     Laid (a .file .now) (length (a .index .now)) (c .before .cuts .given .0 .0) (c .before .cuts .given .0 .1 .0) (c .before .cuts .given .0 .1 .1 .0)
-fits c = laid _ _ _ _ _ (sym (c .before .before .before .layout-of .ensures) ∙ c .before .cuts .given .1)
+fits c = says _ _ _ (sym (c .before .before .before .layout-of .ensures) ∙ c .before .cuts .given .1)
 
 returns : tie.Need-returns
 unfolding rightFor
@@ -45,7 +45,7 @@ returns-3 : tie.Need-returns-3
 unfolding rightFor
 returns-3 c =
     let a = c .before .before .before .before .before .args in
-    let s = short (a .file .now) (length (a .index .now)) (sym (c .before .before .layout-of .ensures) ∙ c .enum-told .given .1) in
+    let s = says (a .file .now) (length (a .index .now)) _ (sym (c .before .before .layout-of .ensures) ∙ c .enum-told .given .1) in
     let h = s .1 in
     rw (s .0) (sym (other-length (indexOf (a .file .now)) (a .index .now) (λ e. omega arith)))
 
@@ -53,7 +53,7 @@ returns-4 : tie.Need-returns-4
 unfolding rightFor
 returns-4 c =
     let a = c .before .before .before .before .before .args in
-    rw (unfinished (a .file .now) (length (a .index .now)) (sym (c .before .before .layout-of .ensures) ∙ c .enum-told2 .given .1))
+    rw (says (a .file .now) (length (a .index .now)) _ (sym (c .before .before .layout-of .ensures) ∙ c .enum-told2 .given .1))
 
 pub right-spec : {M : Type 1} → statement M
 right-spec =

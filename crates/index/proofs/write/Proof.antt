@@ -10,13 +10,13 @@ use Rattle.le.specs.Le.{patch}
 use Rattle.le.proofs.Laws.{stored-in, stored-out}
 use Rattle.index.specs.Index.{indexOf}
 use Rattle.index.specs.Answer.{toldIndex, answerOf, roomOf}
-use Rattle.index.proofs.Layouts.{Laid, laid, short, unfinished}
+use Rattle.index.proofs.Layouts.{Laid, says}
 use Rattle.index.proofs.write.Statement.{statement}
 use Rattle.index.proofs.write.Tie as tie
 
 fits : (c : tie.After-known-told) → let a = c .before .before .before .before .before .before .args in
     Laid (a .file .now) (length (a .room .now)) (c .before .cuts .given .0 .0) (c .before .cuts .given .0 .1 .0) (c .before .cuts .given .0 .1 .1 .0)
-fits c = laid _ _ _ _ _ (sym (c .before .before .before .layout-of .ensures) ∙ c .before .cuts .given .1)
+fits c = says _ _ _ (sym (c .before .before .before .layout-of .ensures) ∙ c .before .cuts .given .1)
 
 put-requires : tie.Need-put-requires
 put-requires c κs = let f = fits (c .before) in (f .count, rw (f .index) (f .room))
@@ -39,7 +39,7 @@ returns-2 : tie.Need-returns-2
 unfolding toldIndex answerOf roomOf
 returns-2 c =
     let a = c .before .before .before .before .before .args in
-    let s = short (a .file .now) (length (a .room .now)) (sym (c .before .before .layout-of .ensures) ∙ c .enum-told .given .1) in
+    let s = says (a .file .now) (length (a .room .now)) _ (sym (c .before .before .layout-of .ensures) ∙ c .enum-told .given .1) in
     let h = s .1 in
     record {
       answer = rw (s .0, lt-leb (length (indexOf (a .file .now))) (length (a .room .now)) h);
@@ -50,7 +50,7 @@ returns-3 : tie.Need-returns-3
 unfolding toldIndex answerOf roomOf
 returns-3 c =
     let a = c .before .before .before .before .before .args in
-    let u = unfinished (a .file .now) (length (a .room .now)) (sym (c .before .before .layout-of .ensures) ∙ c .enum-told2 .given .1) in
+    let u = says (a .file .now) (length (a .room .now)) _ (sym (c .before .before .layout-of .ensures) ∙ c .enum-told2 .given .1) in
     record { answer = rw u; room = rw u }
 
 pub write-spec : {M : Type 1} → statement M

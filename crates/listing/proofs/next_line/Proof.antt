@@ -5,7 +5,7 @@ use native.Mathlib.Omega.{arith}
 use borrow.Author.Needs.{needs}
 use Rattle.moments.specs.Moments.{aheadOf}
 use Rattle.moments.proofs.Laws.{there}
-use Rattle.walk.specs.Growth.{bytesOf}
+use Rattle.reading.specs.Growth.{bytesOf}
 use Rattle.listing.specs.Listing.{momentOr}
 use Rattle.listing.proofs.Laws.{in-file}
 use Rattle.listing.proofs.next_line.Statement.{statement}

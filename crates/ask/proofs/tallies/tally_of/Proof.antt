@@ -3,8 +3,8 @@ use mathlib.Core.Path.{sym, ap, ap₂, _∙_}
 use native.Mathlib.Omega.{arith}
 use borrow.Author.Needs.{needs}
 use Rattle.walk.specs.declared.due.Walk.{Walk}
-use Rattle.walk.proofs.Loops.{further}
-use Rattle.walk.proofs.Run.{left}
+use Rattle.reading.proofs.Loops.{further}
+use Rattle.reading.proofs.Run.{left}
 use Rattle.ask.specs.Tallies.{cutAccepted, tallyTold}
 use Rattle.ask.proofs.Tallying.{Counting, counting-none, Adds, counting-turn, counting-ends}
 use Rattle.ask.proofs.tallies.tally_of.Statement.{statement}

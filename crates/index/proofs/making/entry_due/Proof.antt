@@ -1,3 +1,4 @@
+-- The tests are those of the definition, in the same order. Assumes nothing.
 use borrow.Author.Needs.{needs}
 use borrow.Author.Tests.{le-leb, lt-leb, lt-ltb, le-ltb}
 use Rattle.index.specs.Making.{entryOf}

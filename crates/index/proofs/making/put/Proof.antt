@@ -7,7 +7,7 @@ use borrow.Author.Needs.{needs}
 use lib.ListN.{length}
 use Rattle.le.specs.Le.{bytes, stored}
 use Rattle.le.proofs.Laws.{length-bytes, bytes-low}
-use Rattle.walk.specs.Reading.{stretches}
+use Rattle.reading.specs.Reading.{stretches}
 use Rattle.index.specs.Index.{startOf, indexFor}
 use Rattle.index.specs.Making.{secondAt}
 use Rattle.index.proofs.Sections.{length-start, length-index, start-here, radials-here}

@@ -8,7 +8,7 @@ use borrow.Author.Needs.{needs}
 use lib.ListN.{length, getD}
 use Rattle.le.specs.Le.{le, Bytes}
 use Rattle.le.proofs.Laws.{part-all}
-use Rattle.walk.specs.Reading.{stretches}
+use Rattle.reading.specs.Reading.{stretches}
 use Rattle.index.specs.Index.{startOf, indexFor}
 use Rattle.index.specs.Making.{secondAt}
 use Rattle.index.proofs.Agree.{Agree, agree-none, agree-low, agree-high, agree-all, stands-here, differs-here}

@@ -1,3 +1,4 @@
+-- The start is one byte, the number of cuts modulo 256. Assumes nothing.
 use mathlib.Core.Path.{refl}
 use borrow.Author.Needs.{needs}
 use Rattle.le.specs.Le.{bytes}

@@ -1,9 +1,9 @@
 -- The loop's walks are those of the reading. Assumes nothing.
 use mathlib.Core.Path.{_≡_, sym, _∙_}
 use borrow.Author.Needs.{needs}
-use Rattle.walk.specs.Reading.{stop, last, fuel}
-use Rattle.walk.proofs.Run.{left}
-use Rattle.walk.proofs.Loops.{further, stopped}
+use Rattle.reading.specs.Reading.{stop, last, fuel}
+use Rattle.reading.proofs.Run.{left}
+use Rattle.reading.proofs.Loops.{further, stopped}
 use Rattle.writer.proofs.agree.stop_of.Statement.{statement}
 use Rattle.writer.proofs.agree.stop_of.Tie as tie
 

@@ -2,7 +2,7 @@ use Prim.Native.Nat.{_+_}
 use native.Mathlib.Omega.{arith}
 use borrow.Author.Needs.{needs}
 use Rattle.walk.specs.After.{afterCut}
-use Rattle.walk.specs.Step.{takeCut}
+use Rattle.reading.specs.Step.{takeCut}
 use Rattle.writer.specs.Block.{cut}
 use Rattle.writer.proofs.Putting.{has-passed, puts-taken, puts-refused}
 use Rattle.writer.proofs.on.cut_on.Statement.{statement}

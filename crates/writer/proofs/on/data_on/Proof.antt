@@ -4,10 +4,10 @@ use native.Mathlib.Omega.{arith}
 use borrow.Author.Needs.{needs}
 use borrow.Author.Tests.{eqb-true}
 use lib.ListN.{length}
-use Rattle.blocks.specs.declared.check.Check.the-variants.{Fine}
-use Rattle.walk.specs.declared.step.Step.the-variants.{Took}
+use Rattle.rules.specs.declared.check.Check.the-variants.{Fine}
+use Rattle.reading.specs.declared.step.Step.the-variants.{Took}
 use Rattle.walk.specs.After.{afterData}
-use Rattle.walk.specs.Step.{settle, takeData}
+use Rattle.reading.specs.Step.{settle, takeData}
 use Rattle.writer.specs.Block.{«data»}
 use Rattle.writer.proofs.Putting.{has-passed, puts-taken, puts-refused}
 use Rattle.writer.proofs.on.data_on.Statement.{statement}

@@ -2,7 +2,7 @@ use Prim.Native.Nat.{_+_}
 use native.Mathlib.Omega.{arith}
 use borrow.Author.Needs.{needs}
 use Rattle.walk.specs.After.{afterGeneric}
-use Rattle.walk.specs.Step.{takeGeneric}
+use Rattle.reading.specs.Step.{takeGeneric}
 use Rattle.writer.specs.Block.{generic}
 use Rattle.writer.proofs.Putting.{has-passed, puts-taken, puts-refused}
 use Rattle.writer.proofs.on.generic_on.Statement.{statement}

@@ -2,7 +2,7 @@ use Prim.Native.Nat.{_+_}
 use native.Mathlib.Omega.{arith}
 use borrow.Author.Needs.{needs}
 use Rattle.walk.specs.After.{afterMoment}
-use Rattle.walk.specs.Step.{takeMoment}
+use Rattle.reading.specs.Step.{takeMoment}
 use Rattle.writer.specs.Block.{moment}
 use Rattle.writer.proofs.Putting.{has-passed, puts-taken, puts-refused}
 use Rattle.writer.proofs.on.moment_on.Statement.{statement}

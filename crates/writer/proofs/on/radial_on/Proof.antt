@@ -2,11 +2,11 @@ use Prim.Native.Nat.{ℕ, _+_}
 use mathlib.Core.Path.{sym, ap₂}
 use native.Mathlib.Omega.{arith}
 use borrow.Author.Needs.{needs}
-use Rattle.blocks.specs.Radial.{radialCheck}
+use Rattle.radial.specs.Radial.{radialCheck}
 use Rattle.walk.specs.After.{afterRadial}
 use Rattle.walk.specs.Due.{cutPlace, radialDue}
-use Rattle.walk.specs.Step.{settle, takeRadial, cutIn}
-use Rattle.walk.proofs.Masks.{mask-at, sizes-at}
+use Rattle.reading.specs.Step.{settle, takeRadial, cutIn}
+use Rattle.reading.proofs.Masks.{mask-at, sizes-at}
 use Rattle.writer.specs.Block.{radial}
 use Rattle.writer.proofs.Putting.{has-passed, puts-taken, puts-refused}
 use Rattle.writer.proofs.on.radial_on.Statement.{statement}

@@ -2,7 +2,7 @@ use Prim.Native.Nat.{_+_}
 use native.Mathlib.Omega.{arith}
 use borrow.Author.Needs.{needs}
 use Rattle.walk.specs.After.{afterSite}
-use Rattle.walk.specs.Step.{takeSite}
+use Rattle.reading.specs.Step.{takeSite}
 use Rattle.writer.specs.Block.{site}
 use Rattle.writer.proofs.Putting.{has-passed, puts-taken, puts-refused}
 use Rattle.writer.proofs.on.site_on.Statement.{statement}

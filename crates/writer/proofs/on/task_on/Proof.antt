@@ -2,7 +2,7 @@ use Prim.Native.Nat.{_+_}
 use native.Mathlib.Omega.{arith}
 use borrow.Author.Needs.{needs}
 use Rattle.walk.specs.After.{afterTask}
-use Rattle.walk.specs.Step.{takeTask}
+use Rattle.reading.specs.Step.{takeTask}
 use Rattle.writer.specs.Block.{task}
 use Rattle.writer.proofs.Putting.{has-passed, puts-taken, puts-refused}
 use Rattle.writer.proofs.on.task_on.Statement.{statement}

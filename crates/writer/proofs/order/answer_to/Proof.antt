@@ -1,6 +1,6 @@
 use borrow.Author.Needs.{needs}
 use borrow.Author.Tests.{lt-ltb, le-ltb, eq-eqb, ne-eqb}
-use Rattle.walk.specs.Step.{settle}
+use Rattle.reading.specs.Step.{settle}
 use Rattle.writer.specs.Put.{checked, answerTo}
 use Rattle.writer.proofs.order.answer_to.Statement.{statement}
 use Rattle.writer.proofs.order.answer_to.Tie as tie

@@ -1,0 +1,147 @@
+-- Growth, step by step: what was read of a file stays as it was when bytes are added at its end. Assumes nothing.
+use Prim.Native.Nat.{ℕ, zero, suc, _+_, _-_, _<_, _≤_}
+use native.Mathlib.Omega.{arith}
+use mathlib.Core.Path.{_≡_, refl, sym, ap, ap₂, subst⁻¹, _∙_}
+use mathlib.Core.Bool.{Bool, true, false}
+use mathlib.Core.List.{List, [], _++_, append-nil}
+use lib.ListN.{length, take, length-append}
+use lib.Seq.{take-append-le}
+use Rattle.walk.specs.declared.due.Walk.{Walk}
+use Rattle.reading.specs.declared.Stretch.{Stretch}
+use Rattle.reading.specs.declared.step.Step.{Step}
+use Rattle.reading.specs.declared.step.Step.the-variants.{Took, Open, Refused, Complete}
+use Rattle.walk.specs.Due.{sizeOf, isEnd, endsRadial, atStart}
+use Rattle.reading.specs.Step.{blockAt, stepOf}
+use Rattle.reading.specs.Reading.{walkOn, last, fuel, stop, ending, stretchIf, stretchOf, trace, stretches}
+use Rattle.reading.proofs.Run.{View, here, short, over, done, view, is-here, is-short, is-over, is-done, Plain, took, refused, block-plain, ended, left, taken, stays, Goes, on, off, goes, run-stays, run-step, run-took, enough}
+
+-- a block that is there reads the same
+same-here : (A C : List ℕ) (w : Walk) → isEnd (w .due) ≡ false → w .at + sizeOf w ≤ length A → stepOf (A ++ C) w ≡ stepOf A w
+same-here A C w i h =
+    is-here (A ++ C) w i (omega (arith, length-append A C))
+    ∙ ap (λ (p : List ℕ). blockAt (w .due) p w) (take-append-le (w .at + sizeOf w) A C h)
+    ∙ sym (is-here A w i h)
+
+-- a step that took or refused says the same after growth
+pub keeps-took : (A C : List ℕ) (w m : Walk) → stepOf A w ≡ Took m → stepOf (A ++ C) w ≡ Took m
+keeps-took A C w m e = let t = taken A w m e in same-here A C w (t .going) (t .room) ∙ e
+
+pub keeps-refused : (A C : List ℕ) (w : Walk) (n p : ℕ) → stepOf A w ≡ Refused n p → stepOf (A ++ C) w ≡ Refused n p
+keeps-refused A C w n p e = go (view A w)
+  where
+    go : View A w → stepOf (A ++ C) w ≡ Refused n p
+    go (here i h) = same-here A C w i h ∙ e
+    go (short i h) = let q = is-short A w i h in cc
+    go (over i h) = is-over (A ++ C) w i (omega (arith, length-append A C)) ∙ sym (is-over A w i h) ∙ e
+    go (done i h) = let q = is-done A w i h in cc
+
+-- an end that is reached: bytes that follow are refused
+pub grows-complete : (A C : List ℕ) (w : Walk) → w .at ≤ length A → stepOf A w ≡ Complete → 0 < length C → stepOf (A ++ C) w ≡ Refused 25 (length A)
+grows-complete A C w b e c =
+    let d = ended A w e in
+    let h = d .1 in
+    is-over (A ++ C) w (d .0) (omega (arith, length-append A C)) ∙ ap (Refused 25) (omega arith)
+
+-- an open block: how much is missing, and what becomes of it
+pub record Opens (A C : List ℕ) (w : Walk) (n : ℕ) : Type 0 where
+  pub some : 1 ≤ n
+  pub still : length C < n → stepOf (A ++ C) w ≡ Open (n - length C)
+  pub further : n ≤ length C → Plain (stepOf (A ++ C) w)
+  pub size : w .at < w .at + sizeOf w
+
+plain-same : (s t : Step) → s ≡ t → Plain t → Plain s
+plain-same s t e (took m q) = took m (e ∙ q)
+plain-same s t e (refused n p q) = refused n p (e ∙ q)
+
+open-inj : (a b : ℕ) → Open a ≡ Open b → a ≡ b
+open-inj a b e = cc
+
+pub grows-open : (A C : List ℕ) (w : Walk) (n : ℕ) → w .at ≤ length A → stepOf A w ≡ Open n → Opens A C w n
+grows-open A C w n b e = go (view A w)
+  where
+    go : View A w → Opens A C w n
+    go (here i h) = plain (block-plain (w .due) (take (w .at + sizeOf w) A) w i)
+      where
+        plain : Plain (blockAt (w .due) (take (w .at + sizeOf w) A) w) → Opens A C w n
+        plain (took m q) = absurd (let z = is-here A w i h in let y : _≡_ {A = ℕ} 0 1 = cc in omega arith)
+        plain (refused a b q) = absurd (let z = is-here A w i h in let y : _≡_ {A = ℕ} 0 1 = cc in omega arith)
+    go (short i h) =
+        let q : w .at + sizeOf w - length A ≡ n = open-inj _ _ (sym (is-short A w i h) ∙ e) in
+        let l = length-append A C in
+        record {
+          some = omega arith;
+          still = λ c. is-short (A ++ C) w i (omega arith) ∙ ap Open (omega arith);
+          further = λ c. plain-same _ _ (is-here (A ++ C) w i (omega arith)) (block-plain (w .due) _ w i);
+          size = omega arith;
+        }
+    go (over i h) = absurd (let q = is-over A w i h in let y : _≡_ {A = ℕ} 0 1 = cc in omega arith)
+    go (done i h) = absurd (let q = is-done A w i h in let y : _≡_ {A = ℕ} 0 1 = cc in omega arith)
+
+-- ---- runs: what the longer file's run makes is what the shorter's makes, with the rest put in where that one stops
+
+module _ {X : Type 0} (z : Walk → X) (s : Walk → Walk → X → X) where
+  run-grows : (k K : ℕ) (A C : List ℕ) (w : Walk) → left (A ++ C) w < K → walkOn z s K (A ++ C) w ≡ walkOn (walkOn z s K (A ++ C)) s k A w
+  unfolding walkOn
+  run-grows zero K A C w h = refl
+  run-grows (suc k) K A C w h = go (goes A w) (λ m. run-grows k K A C m)
+    where
+      go : Goes A w → ((m : Walk) → left (A ++ C) m < K → walkOn z s K (A ++ C) m ≡ walkOn (walkOn z s K (A ++ C)) s k A m) → walkOn z s K (A ++ C) w ≡ walkOn (walkOn z s K (A ++ C)) s (suc k) A w
+      go (on m e) r =
+          let b = keeps-took A C w m e in
+          let t = taken (A ++ C) w m b .less in
+          run-step z s K (A ++ C) w m h b ∙ ap (s w m) (r m (omega arith)) ∙ sym (run-took (walkOn z s K (A ++ C)) s k A w m e)
+      go (off q) r = sym (run-stays (walkOn z s K (A ++ C)) s (suc k) A w q)
+
+-- the rest, put in at the stop
+last-rest : {X : Type 0} (y : Walk → X) (k : ℕ) (f : List ℕ) (w : Walk) → walkOn y (λ v n r. r) k f w ≡ y (last k f w)
+unfolding walkOn
+last-rest y zero f w = refl
+last-rest y (suc k) f w = go (goes f w) (λ m. last-rest y k f m)
+  where
+    go : Goes f w → ((m : Walk) → walkOn y (λ v n r. r) k f m ≡ y (last k f m)) → walkOn y (λ v n r. r) (suc k) f w ≡ y (last (suc k) f w)
+    go (on m e) r = run-took y (λ v n r. r) k f w m e ∙ r m ∙ ap y (sym (run-took (λ v. v) (λ v n r. r) k f w m e))
+    go (off q) r = run-stays y (λ v n r. r) (suc k) f w q ∙ ap y (sym (run-stays (λ v. v) (λ v n r. r) (suc k) f w q))
+
+stretch-append : (b : Bool) (w n : Walk) (r t : List Stretch) → stretchIf b w n (r ++ t) ≡ stretchIf b w n r ++ t
+unfolding stretchIf
+stretch-append true w n r t = refl
+stretch-append false w n r t = refl
+
+trace-rest : (y : Walk → List Stretch) (k : ℕ) (f : List ℕ) (w : Walk) → walkOn y stretchOf k f w ≡ trace k f w ++ y (last k f w)
+unfolding walkOn
+trace-rest y zero f w = refl
+trace-rest y (suc k) f w = go (goes f w) (λ m. trace-rest y k f m)
+  where
+    go : Goes f w → ((m : Walk) → walkOn y stretchOf k f m ≡ trace k f m ++ y (last k f m)) → walkOn y stretchOf (suc k) f w ≡ trace (suc k) f w ++ y (last (suc k) f w)
+    go (on m e) r =
+        run-took y stretchOf k f w m e ∙ ap (stretchOf w m) (r m)
+        ∙ stretch-append (endsRadial (w .due) (w .rest .todo)) w m (trace k f m) (y (last k f m))
+        ∙ sym (ap₂ (λ (a : List Stretch) (b : Walk). a ++ y b) (run-took (λ v. []) stretchOf k f w m e) (run-took (λ v. v) (λ v n r. r) k f w m e))
+    go (off q) r =
+        run-stays y stretchOf (suc k) f w q
+        ∙ sym (ap₂ (λ (a : List Stretch) (b : Walk). a ++ y b) (run-stays (λ v. []) stretchOf (suc k) f w q) (run-stays (λ v. v) (λ v n r. r) (suc k) f w q))
+
+-- ---- the longer file's run goes through the stop of the shorter's, and every whole radial of A is in A ++ C
+
+module _ (A C : List ℕ) where
+  pub through : stop (A ++ C) ≡ last (fuel (A ++ C)) (A ++ C) (stop A)
+  through = run-grows (λ v. v) (λ v n r. r) (fuel A) (fuel (A ++ C)) A C atStart (enough (A ++ C) atStart) ∙ last-rest _ (fuel A) A atStart
+
+  pub kept : stretches (A ++ C) ≡ stretches A ++ trace (fuel (A ++ C)) (A ++ C) (stop A)
+  kept = run-grows (λ v. []) stretchOf (fuel A) (fuel (A ++ C)) A C atStart (enough (A ++ C) atStart) ∙ trace-rest _ (fuel A) A atStart
+
+  -- where the longer file's step stays at the shorter's stop, the two stop there
+  pub record Rests (t : Step) : Type 0 where
+    pub at : stop (A ++ C) ≡ stop A
+    pub radials : stretches (A ++ C) ≡ stretches A
+    pub told : ending (A ++ C) ≡ t
+
+  pub rests : (t : Step) → stays t → stepOf (A ++ C) (stop A) ≡ t → Rests t
+  rests t h e =
+      let s = subst⁻¹ stays e h in
+      let a = through ∙ run-stays (λ v. v) (λ v n r. r) (fuel (A ++ C)) (A ++ C) (stop A) s in
+      record {
+        at = a;
+        radials = kept ∙ ap (λ (t : List Stretch). stretches A ++ t) (run-stays (λ v. []) stretchOf (fuel (A ++ C)) (A ++ C) (stop A) s) ∙ append-nil (stretches A);
+        told = ap (stepOf (A ++ C)) a ∙ e;
+      }

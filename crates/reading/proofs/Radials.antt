@@ -1,0 +1,285 @@
+-- Every stretch that a walk passes is a whole radial: its header was accepted, and its moments tile it. The walk from a
+-- radial's header to its last data is followed step by step. Assumes nothing.
+use Prim.Native.Nat.{ℕ, zero, suc, _+_, _-_, _<_, _≤_}
+use native.Mathlib.Omega.{arith}
+use mathlib.Core.Path.{_≡_, refl, sym, ap, subst, _∙_}
+use mathlib.Core.Bool.{Bool, true, false, not, _&&_}
+use mathlib.Core.List.{List}
+use lib.Dec.{ltb, lit<}
+use lib.ListN.{length, take}
+use mir.Syntax.{w32}
+use borrow.Author.Tests.{eqb-true, eqb-false, lt-ltb, le-ltb, leb-true}
+use Rattle.le.proofs.Laws.{part-take}
+use Rattle.rules.specs.Moments.{momentNumberOk, withBit}
+use Rattle.rules.specs.Ranges.{within}
+use Rattle.rules.proofs.Numbers.{by-bits}
+use Rattle.rules.specs.declared.check.Check.the-variants.{Fine}
+use Rattle.moment.specs.declared.Moment.{Moment}
+use Rattle.radial.specs.declared.Radial.{Radial}
+use Rattle.moment.specs.Moment.{momentOf, momentAt, momentCheck}
+use Rattle.radial.specs.Radial.{radialOf, radialAt, radialCheck, radialRules}
+use Rattle.rules.proofs.Judged.{all-hold}
+use Rattle.walk.specs.declared.due.Due.{Due}
+use Rattle.walk.specs.declared.due.Due.the-variants as due
+use Rattle.walk.specs.declared.due.Walk.{Walk}
+use Rattle.reading.specs.declared.Stretch.{Stretch}
+use Rattle.reading.specs.declared.Onward.{Onward}
+use Rattle.reading.specs.declared.Onward.the-variants.{Whole, Stopped}
+use Rattle.reading.specs.declared.step.Step.the-variants.{Took}
+use Rattle.walk.specs.Due.{sizeAt, dueIf, endsRadial, radialDue, atStart}
+use Rattle.walk.specs.After.{afterData, afterDataIf, closesCut, afterRadial, afterMoment}
+use Rattle.reading.specs.Step.{takeGeneric, takeSite, takeTask, takeCut, takeRadial, takeMoment, takeData, cutIn, blockAt}
+use Rattle.reading.specs.Reading.{walkOn, fuel, stretch, trace, stretches, advanceIf, onTo, advanceOf}
+use Rattle.reading.specs.Tiling.{dueWith, Tiled, none, more, WholeRadial, AllWhole}
+use Rattle.reading.proofs.Counts.{settle-fine}
+use Rattle.reading.proofs.Loops.{further, no-more}
+use Rattle.reading.proofs.Run.{settle-took, took-inj, ends-data, left, taken, Goes, on, off, goes, run-took, run-stays, enough}
+
+-- ---- a block is the same in the file and in the part of it that ends with the block
+
+radial-same : (f : List ℕ) (at : ℕ) → radialAt (take (at + 64) f) at ≡ radialAt f at
+unfolding radialAt
+radial-same f at = ap radialOf (part-take 64 f at (at + 64) (omega arith))
+
+moment-same : (f : List ℕ) (at : ℕ) → momentAt (take (at + 32) f) at ≡ momentAt f at
+unfolding momentAt
+moment-same f at = ap momentOf (part-take 32 f at (at + 32) (omega arith))
+
+-- ---- an accepted radial header announces a moment at least
+
+some-moment : (r k : ℕ) → momentNumberOk r k ≡ true → 1 ≤ k
+unfolding momentNumberOk within
+some-moment r k e =
+    let a : within 1 64 k ≡ true = sym (by-bits w32 1 64 k (lit< tt)) ∙ and-left _ _ e in
+    leb-true 1 k (and-left _ _ a)
+  where
+    and-left : (a b : Bool) → (a && b) ≡ true → a ≡ true
+    and-left true b e = refl
+    and-left false b e = cc
+
+-- ---- what a walk still has before it, up to the end of the radial that becomes whole next
+
+pub record Inside (f : List ℕ) (w : Walk) (s : Stretch) (k at : ℕ) : Type 0 where
+  pub start : s .start ≡ w .present .start
+  pub cut : s .cut ≡ w .count .cut
+  pub end : at ≤ s .end
+  pub rest : Tiled f (w .present .mask) (w .present .sizes) (w .rest .seen) (w .rest .left) k at (s .end)
+
+pub record Outside (f : List ℕ) (w : Walk) (s : Stretch) : Type 0 where
+  pub from : w .at ≤ s .start
+  pub end : s .start + 64 ≤ s .end
+  pub whole : WholeRadial f s
+
+unfoldable Before : Due → List ℕ → Walk → Stretch → Type 0
+Before due.Generic f w s = Outside f w s
+Before due.Site f w s = Outside f w s
+Before due.Task f w s = Outside f w s
+Before due.Cut f w s = Outside f w s
+Before due.Radial f w s = Outside f w s
+Before due.Moment f w s = 1 ≤ w .rest .todo → Inside f w s (w .rest .todo) (w .at)
+Before due.Data f w s = Inside f w s (w .rest .todo) (w .at + w .rest .length)
+Before due.Nothing f w s = Outside f w s
+
+out-back : (f : List ℕ) (w m : Walk) (s : Stretch) → w .at ≤ m .at → Outside f m s → Outside f w s
+out-back f w m s h o = let a = o .from in record { from = omega arith; end = o .end; whole = o .whole }
+
+out-if : (b : Bool) (f : List ℕ) (m : Walk) (s : Stretch) → Before (dueIf b due.Radial due.Cut) f m s → Outside f m s
+unfolding Before dueIf
+out-if true f m s o = o
+out-if false f m s o = o
+
+-- one moment more in front of those that tile
+tile-more : (f : List ℕ) (mask sizes seen left todo at end : ℕ) (h : Moment) → h ≡ momentAt f at → 1 ≤ todo
+    → momentCheck h (dueWith mask sizes seen left todo) ≡ Fine
+    → Tiled f mask sizes (withBit seen (h .«data_type»)) (left - (32 + h .length)) (todo - 1) (at + 32 + h .length) end
+    → Tiled f mask sizes seen left todo at end
+tile-more f mask sizes seen left zero at end h e t g r = absurd (omega arith)
+tile-more f mask sizes seen left (suc k) at end h e t g r =
+    let one : suc k - 1 ≡ k = omega arith in
+    more (ap (λ (x : Moment). momentCheck x (dueWith mask sizes seen left (suc k))) (sym e) ∙ g)
+    (subst (λ (x : Moment). Tiled f mask sizes (withBit seen (x .«data_type»)) (left - (32 + x .length)) k (at + 32 + x .length) end) e (rw one at r))
+
+-- what lies before a walk, from what lies before the next
+module _ (f : List ℕ) (w m : Walk) (s : Stretch) (later : Before (m .due) f m s) where
+  moved : (x : Walk) → x ≡ m → Before (x .due) f x s
+  moved x e = subst (λ (y : Walk). Before (y .due) f y s) (sym e) later
+
+  back-radial : takeRadial (radialAt (take (w .at + 64) f) (w .at)) (cutIn (take (w .at + 64) f) w) w ≡ Took m → Outside f w s
+  unfolding takeRadial radialCheck Before
+  back-radial e =
+      let r = radialAt (take (w .at + 64) f) (w .at) in
+      let c = cutIn (take (w .at + 64) f) w in
+      let g = settle-fine _ _ _ m e in
+      let h = all-hold (radialRules r (radialDue w)) g in
+      let k = some-moment (r .«length_of_data») (r .«moment_number») (h .1 .1 .1 .1 .1 .1 .1 .1 .1 .1 .0) in
+      let i = moved (afterRadial r (c .«moments_mask») (c .«size_mask») w (w .at + 64)) (settle-took _ _ _ m e) k in
+      let same : r ≡ radialAt f (s .start) = radial-same f (w .at) ∙ ap (radialAt f) (sym (i .start)) in
+      let st = i .start in
+      let en = i .end in
+      record {
+        from = omega arith;
+        end = omega arith;
+        whole =
+            record {
+              against = radialDue w;
+              cut = i .cut;
+              header = ap (λ (x : Radial). radialCheck x (radialDue w)) (sym same) ∙ g;
+              mask = c .«moments_mask»;
+              sizes = c .«size_mask»;
+              moments =
+                  subst (λ (x : Radial). Tiled f (c .«moments_mask») (c .«size_mask») 0 (x .«length_of_data») (x .«moment_number») (s .start + 64) (s .end)) same
+                  (subst (λ (a : ℕ). Tiled f (c .«moments_mask») (c .«size_mask») 0 (r .«length_of_data») (r .«moment_number») (a + 64) (s .end)) (sym st) (i .rest));
+            };
+      }
+
+  back-moment : takeMoment (momentAt (take (w .at + 32) f) (w .at)) w ≡ Took m → 1 ≤ w .rest .todo → Inside f w s (w .rest .todo) (w .at)
+  unfolding takeMoment Before
+  back-moment e t =
+      let h = momentAt (take (w .at + 32) f) (w .at) in
+      let g = settle-fine _ _ _ m e in
+      let i = moved (afterMoment h w (w .at + 32)) (settle-took _ _ _ m e) in
+      let same : h ≡ momentAt f (w .at) = moment-same f (w .at) in
+      let en = i .end in
+      record {
+        start = i .start;
+        cut = i .cut;
+        end = omega arith;
+        rest = tile-more f _ _ _ _ (w .rest .todo) (w .at) (s .end) h same t g (i .rest);
+      }
+
+  back-data : takeData w ≡ Took m → 0 < w .rest .todo → Inside f w s (w .rest .todo) (w .at + w .rest .length)
+  unfolding takeData afterData Before dueIf
+  back-data e t =
+      let a = ap (λ (b : Bool). afterDataIf b (closesCut w) (ltb (w .count .cut) (w .plan .cuts)) w (w .at + w .rest .length)) (lt-ltb 0 (w .rest .todo) t) in
+      let i = moved (afterDataIf true (closesCut w) (ltb (w .count .cut) (w .plan .cuts)) w (w .at + w .rest .length)) (sym a ∙ took-inj _ m e) (omega arith) in
+      record { start = i .start; cut = i .cut; end = i .end; rest = i .rest }
+
+  back : (d : Due) → blockAt d (take (w .at + sizeAt d (w .rest .length)) f) w ≡ Took m → m .at ≡ w .at + sizeAt d (w .rest .length)
+      → endsRadial d (w .rest .todo) ≡ false → Before d f w s
+  unfolding blockAt takeGeneric takeSite takeTask takeCut sizeAt endsRadial Before
+  back due.Generic e a t = out-back f w _ s (omega arith) (moved _ (settle-took _ _ _ m e))
+  back due.Site e a t = out-back f w _ s (omega arith) (moved _ (settle-took _ _ _ m e))
+  back due.Task e a t = out-back f w _ s (omega arith) (moved _ (settle-took _ _ _ m e))
+  back due.Cut e a t = out-back f w _ s (omega arith) (out-if _ f _ s (moved _ (settle-took _ _ _ m e)))
+  back due.Radial e a t = back-radial e
+  back due.Moment e a t = back-moment e
+  back due.Data e a t = back-data e (more-todo (w .rest .todo) (eqb-false (w .rest .todo) 0 t))
+    where
+      more-todo : (n : ℕ) → (n ≡ 0 → ⊥) → 0 < n
+      more-todo zero h = absurd (h refl)
+      more-todo (suc n) h = omega arith
+  back due.Nothing e a t = absurd (let z : _≡_ {A = ℕ} 0 1 = cc in omega arith)
+
+-- at a radial's last data, its stretch ends where the data do
+ends : (d : Due) (f : List ℕ) (w m : Walk) (s : Stretch) → stretch w m ≡ s → m .at ≡ w .at + sizeAt d (w .rest .length) → endsRadial d (w .rest .todo) ≡ true → Before d f w s
+unfolding endsRadial sizeAt Before
+ends d f w m s e a t =
+    let is-data = ends-data d (w .rest .todo) t in
+    let last : s .end ≡ w .at + w .rest .length = ap (λ (x : Stretch). x .end) (sym e) ∙ (rw is-data at a) in
+    let zero-left : w .rest .todo ≡ 0 = eqb-true (w .rest .todo) 0 (rw is-data at t) in
+    rw is-data
+    (record {
+      start = ap (λ (x : Stretch). x .start) (sym e);
+      cut = ap (λ (x : Stretch). x .cut) (sym e);
+      end = omega arith;
+      rest = rw (zero-left, last) none;
+    })
+
+whole-fst : (a b : Stretch) (m n : Walk) → Whole a m ≡ Whole b n → a ≡ b
+whole-fst a b m n e = cc
+
+before-at : (k : ℕ) (f : List ℕ) (w : Walk) (s : Stretch) (n : Walk) → walkOn (λ v. Stopped v) onTo k f w ≡ Whole s n → Before (w .due) f w s
+unfolding advanceIf walkOn
+before-at zero f w s n e = absurd (let z : _≡_ {A = ℕ} 0 1 = cc in omega arith)
+before-at (suc k) f w s n e = go (goes f w) (λ m. before-at k f m s n)
+  where
+    go : Goes f w → ((m : Walk) → walkOn (λ v. Stopped v) onTo k f m ≡ Whole s n → Before (m .due) f m s) → Before (w .due) f w s
+    go (off h) r = let z = run-stays (λ v. Stopped v) onTo (suc k) f w h in absurd (let y : _≡_ {A = ℕ} 0 1 = cc in omega arith)
+    go (on m q) r = by (endsRadial (w .due) (w .rest .todo)) refl
+      where
+        by : (b : Bool) → endsRadial (w .due) (w .rest .todo) ≡ b → Before (w .due) f w s
+        by false p =
+            let t = taken f w m q in
+            back f w m s (r m (sym (run-took (λ v. Stopped v) onTo k f w m q ∙ ap (λ (t : Bool). advanceIf t w m (walkOn (λ v. Stopped v) onTo k f m)) p) ∙ e)) (w .due) (t .block) (t .end) p
+        by true p =
+            let y = sym (run-took (λ v. Stopped v) onTo k f w m q ∙ ap (λ (t : Bool). advanceIf t w m (walkOn (λ v. Stopped v) onTo k f m)) p) ∙ e in
+            ends (w .due) f w m s (whole-fst (stretch w m) s m n y) (taken f w m q .end) p
+
+-- ---- a walk between radials
+
+unfoldable pub Between : Due → Type 0
+Between due.Generic = Unit {0}
+Between due.Site = Unit {0}
+Between due.Task = Unit {0}
+Between due.Cut = Unit {0}
+Between due.Radial = Unit {0}
+Between due.Moment = ⊥
+Between due.Data = ⊥
+Between due.Nothing = Unit {0}
+
+before-out : (d : Due) (f : List ℕ) (w : Walk) (s : Stretch) → Between d → Before d f w s → Outside f w s
+unfolding Between Before
+before-out due.Generic f w s b o = o
+before-out due.Site f w s b o = o
+before-out due.Task f w s b o = o
+before-out due.Cut f w s b o = o
+before-out due.Radial f w s b o = o
+before-out due.Moment f w s b o = absurd b
+before-out due.Data f w s b o = absurd b
+before-out due.Nothing f w s b o = o
+
+-- from between radials, an advance comes to a whole radial that starts at or after the walk's place
+pub outside : (f : List ℕ) (w : Walk) (s : Stretch) (n : Walk) → Between (w .due) → advanceOf f w ≡ Whole s n → Outside f w s
+outside f w s n b e = before-out (w .due) f w s b (before-at (fuel f) f w s n e)
+
+between-if : (a b : Bool) → Between (dueIf false due.Moment (dueIf (a && not b) due.Nothing due.Radial))
+unfolding Between dueIf
+between-if true true = tt
+between-if true false = tt
+between-if false b = tt
+
+between-data : (d : Due) (p : List ℕ) (w m : Walk) → blockAt d p w ≡ Took m → endsRadial d (w .rest .todo) ≡ true → Between (m .due)
+unfolding blockAt endsRadial takeData afterData
+between-data d p w m e t =
+    let is-data = ends-data d (w .rest .todo) t in
+    let none-left : w .rest .todo ≡ 0 = eqb-true (w .rest .todo) 0 (rw is-data at t) in
+    let a = ap (λ (b : Bool). afterDataIf b (closesCut w) (ltb (w .count .cut) (w .plan .cuts)) w (w .at + w .rest .length)) (le-ltb 0 (w .rest .todo) (omega arith)) in
+    subst (λ (x : Walk). Between (x .due)) (sym a ∙ took-inj _ m (rw is-data at e)) (between-if (closesCut w) (ltb (w .count .cut) (w .plan .cuts)))
+
+whole-snd : (a b : Stretch) (m n : Walk) → Whole a m ≡ Whole b n → m ≡ n
+whole-snd a b m n e = cc
+
+between-at : (k : ℕ) (f : List ℕ) (w : Walk) (s : Stretch) (n : Walk) → walkOn (λ v. Stopped v) onTo k f w ≡ Whole s n → Between (n .due)
+unfolding advanceIf walkOn
+between-at zero f w s n e = absurd (let z : _≡_ {A = ℕ} 0 1 = cc in omega arith)
+between-at (suc k) f w s n e = go (goes f w) (λ m. between-at k f m s n)
+  where
+    go : Goes f w → ((m : Walk) → walkOn (λ v. Stopped v) onTo k f m ≡ Whole s n → Between (n .due)) → Between (n .due)
+    go (off h) r = let z = run-stays (λ v. Stopped v) onTo (suc k) f w h in absurd (let y : _≡_ {A = ℕ} 0 1 = cc in omega arith)
+    go (on m q) r = by (endsRadial (w .due) (w .rest .todo)) refl
+      where
+        by : (b : Bool) → endsRadial (w .due) (w .rest .todo) ≡ b → Between (n .due)
+        by false p = r m (sym (run-took (λ v. Stopped v) onTo k f w m q ∙ ap (λ (t : Bool). advanceIf t w m (walkOn (λ v. Stopped v) onTo k f m)) p) ∙ e)
+        by true p =
+            let y = sym (run-took (λ v. Stopped v) onTo k f w m q ∙ ap (λ (t : Bool). advanceIf t w m (walkOn (λ v. Stopped v) onTo k f m)) p) ∙ e in
+            subst (λ (x : Walk). Between (x .due)) (whole-snd (stretch w m) s m n y) (between-data (w .due) _ w m (taken f w m q .block) p)
+
+pub between-next : (f : List ℕ) (w : Walk) (s : Stretch) (n : Walk) → advanceOf f w ≡ Whole s n → Between (n .due)
+between-next f w s n e = between-at (fuel f) f w s n e
+
+-- ---- every stretch of a file is a whole radial
+
+all-from : (k : ℕ) (f : List ℕ) (w : Walk) → left f w < k → Between (w .due) → AllWhole f (trace (fuel f) f w)
+all-from zero f w h b = absurd (omega arith)
+all-from (suc k) f w h b = go (advanceOf f w) refl (λ n. all-from k f n)
+  where
+    go : (a : Onward) → advanceOf f w ≡ a → ((n : Walk) → left f n < k → Between (n .due) → AllWhole f (trace (fuel f) f n)) → AllWhole f (trace (fuel f) f w)
+    go (Stopped v) e r = rw (no-more f w v e) tt
+    go (Whole s n) e r =
+        let x = further f w s n e in
+        let l = x .less in
+        rw (x .more) (outside f w s n b e .whole, r n (omega arith) (between-next f w s n e))
+
+pub all-whole : (f : List ℕ) → AllWhole f (stretches f)
+unfolding Between
+all-whole f = all-from (fuel f) f atStart (enough f atStart) tt

@@ -1,0 +1,4 @@
+pub mod Step
+pub mod Reading
+pub mod Growth
+pub mod Tiling

@@ -1,0 +1,84 @@
+-- One step of the walk: the due block, taken or refused, or what is missing of it.
+use Prim.Native.Nat.{ℕ, _+_, _-_}
+use mathlib.Core.Bool.{Bool, true, false}
+use mathlib.Core.List.{List}
+use lib.Dec.{leb, ltb}
+use lib.ListN.{length, take}
+use Rattle.rules.specs.declared.check.Check.{Check}
+use Rattle.rules.specs.declared.check.Check.the-variants.{Fine, Broken}
+use Rattle.cut.specs.declared.Cut.{Cut}
+use Rattle.generic.specs.declared.Generic.{Generic}
+use Rattle.moment.specs.declared.Moment.{Moment}
+use Rattle.radial.specs.declared.Radial.{Radial}
+use Rattle.site.specs.declared.Site.{Site}
+use Rattle.task.specs.declared.Task.{Task}
+use Rattle.cut.specs.Cut.{cutAt, cutCheck}
+use Rattle.generic.specs.Generic.{genericAt, genericCheck}
+use Rattle.moment.specs.Moment.{momentAt, momentCheck}
+use Rattle.radial.specs.Radial.{radialAt, radialCheck}
+use Rattle.site.specs.Site.{siteAt, siteCheck}
+use Rattle.task.specs.Task.{taskAt, taskCheck}
+use Rattle.walk.specs.declared.due.Due.{Due}
+use Rattle.walk.specs.declared.due.Due.the-variants as due
+use Rattle.walk.specs.declared.due.Walk.{Walk}
+use Rattle.reading.specs.declared.step.Step.{Step}
+use Rattle.reading.specs.declared.step.Step.the-variants.{Took, Open, Refused, Complete}
+use Rattle.walk.specs.Due.{sizeOf, isEnd, radialDue, momentDue, cutPlace}
+use Rattle.walk.specs.After.{afterGeneric, afterSite, afterTask, afterCut, afterRadial, afterMoment, afterData}
+
+-- a block that keeps its rules is taken; the first broken rule gives the number, and the place in the file
+unfoldable pub settle : Check → ℕ → Walk → Step
+settle Fine at next = Took next
+settle (Broken n p) at next = Refused n (at + p)
+
+-- what a record says where it is due: the reader finds it in the file, the writer is handed it
+unfoldable pub takeGeneric : Generic → Walk → Step
+takeGeneric r w = settle (genericCheck r) (w .at) (afterGeneric w (w .at + 32))
+
+unfoldable pub takeSite : Site → Walk → Step
+takeSite r w = settle (siteCheck r) (w .at) (afterSite w (w .at + 128))
+
+unfoldable pub takeTask : Task → Walk → Step
+takeTask r w = settle (taskCheck r) (w .at) (afterTask (r .«scan_type») (r .«cut_number») w (w .at + 256))
+
+unfoldable pub takeCut : Cut → Walk → Step
+takeCut r w = settle (cutCheck r) (w .at) (afterCut w (w .at + 256))
+
+unfoldable pub takeRadial : Radial → Cut → Walk → Step
+takeRadial r c w =
+    settle (radialCheck r (radialDue w)) (w .at) (afterRadial r (c .«moments_mask») (c .«size_mask») w (w .at + 64))
+
+unfoldable pub takeMoment : Moment → Walk → Step
+takeMoment r w = settle (momentCheck r (momentDue w)) (w .at) (afterMoment r w (w .at + 32))
+
+-- data has no rule
+unfoldable pub takeData : Walk → Step
+takeData w = Took (afterData w (w .at + w .rest .length))
+
+-- the cut that the walk's radials belong to, in the file's bytes
+abbrev pub cutIn : List ℕ → Walk → Cut
+cutIn p w = cutAt p (cutPlace (w .count .cut))
+
+-- what the due block says, in the file's bytes up to its end
+unfoldable pub blockAt : Due → List ℕ → Walk → Step
+blockAt due.Generic p w = takeGeneric (genericAt p (w .at)) w
+blockAt due.Site p w = takeSite (siteAt p (w .at)) w
+blockAt due.Task p w = takeTask (taskAt p (w .at)) w
+blockAt due.Cut p w = takeCut (cutAt p (w .at)) w
+blockAt due.Radial p w = takeRadial (radialAt p (w .at)) (cutIn p w) w
+blockAt due.Moment p w = takeMoment (momentAt p (w .at)) w
+blockAt due.Data p w = takeData w
+blockAt due.Nothing p w = Complete
+
+unfoldable pub pick : Bool → Step → Step → Step
+pick true a b = a
+pick false a b = b
+
+-- a block is looked at only when all its bytes are there; after the last block no byte may follow (number 25)
+unfoldable pub stepOf : List ℕ → Walk → Step
+stepOf f w =
+    pick (isEnd (w .due))
+    (pick (ltb (w .at) (length f)) (Refused 25 (w .at)) Complete)
+    (pick (leb (w .at + sizeOf w) (length f))
+    (blockAt (w .due) (take (w .at + sizeOf w) f) w)
+    (Open (w .at + sizeOf w - length f)))

@@ -1,0 +1,148 @@
+// What reading tells, and the way from whole radial to whole radial.
+ghost use mathlib.Core.Path.{_≡_};
+ghost use Prim.Native.Nat.{_≤_};
+ghost use lib.ListN.{length};
+ghost use Rattle.reading.specs.Reading.{Tells, advanceOf, stretches, nth};
+
+mod step;
+
+use crate::step::Step;
+use crate::step::step_at;
+use walk::due::Walk;
+use walk::due::ends_radial;
+
+pub enum Verdict {
+    Complete,
+    // The bytes missing from the block that is due.
+    Open(usize),
+    // The refusal's number and place.
+    Refused(u32, usize),
+}
+
+pub struct Reading {
+    pub verdict: Verdict,
+    // The end of the last accepted block.
+    pub read: usize,
+    // The whole radials.
+    pub radials: usize,
+}
+
+// The bytes of a whole radial, from its header's first to its last data's end, and its cut.
+pub struct Stretch {
+    pub start: usize,
+    pub end: usize,
+    pub cut: u32,
+}
+
+pub enum Onward {
+    // A further radial is whole: its stretch, and the walk after it.
+    Whole(Stretch, Walk),
+    // No further radial is whole: where the walk stops.
+    Stopped(Walk),
+}
+
+pub enum Found {
+    There(Stretch),
+    Nowhere,
+}
+
+pub fn read(file: &[u8]) -> Reading
+    ensures { λ r. ⌜ Tells (now (file .entry)) r ⌝ }
+{
+    let mut w = Walk::begin();
+    loop {
+        match step_at(file, w) {
+            Step::Took(n) => {
+                w = n;
+            }
+            Step::Open(m) => {
+                return Reading {
+                    verdict: Verdict::Open(m),
+                    read: w.at,
+                    radials: w.count.whole,
+                };
+            }
+            Step::Refused(n, p) => {
+                return Reading {
+                    verdict: Verdict::Refused(n, p),
+                    read: w.at,
+                    radials: w.count.whole,
+                };
+            }
+            Step::Complete => {
+                return Reading {
+                    verdict: Verdict::Complete,
+                    read: w.at,
+                    radials: w.count.whole,
+                };
+            }
+        }
+    }
+}
+
+// On from a walk to where a further radial is whole. A walk past the file's end is none of this file's, and stops at once.
+pub fn advance(file: &[u8], from: Walk) -> Onward
+    ensures { λ r. ⌜ r ≡ advanceOf (now (file .entry)) from ⌝ }
+{
+    if file.len() < from.at {
+        return Onward::Stopped(from);
+    }
+    advance_in(file, from)
+}
+
+fn advance_in(file: &[u8], from: Walk) -> Onward
+    requires { ⌜ from .at ≤ length (now file) ⌝ }
+    ensures { λ r. ⌜ r ≡ advanceOf (now (file .entry)) from ⌝ }
+{
+    let mut w = from;
+    loop {
+        match step_at(file, w) {
+            Step::Took(n) => {
+                let due = w.due;
+                if ends_radial(due, w.rest.todo) {
+                    let stretch = Stretch {
+                        start: w.present.start,
+                        end: n.at,
+                        cut: w.count.cut,
+                    };
+                    return Onward::Whole(stretch, n);
+                }
+                w = n;
+            }
+            Step::Open(_) => {
+                return Onward::Stopped(w);
+            }
+            Step::Refused(_, _) => {
+                return Onward::Stopped(w);
+            }
+            Step::Complete => {
+                return Onward::Stopped(w);
+            }
+        }
+    }
+}
+
+// The whole radial with a sequence number, from 1.
+pub fn find(file: &[u8], sequence: usize) -> Found
+    ensures { λ r. ⌜ r ≡ nth (stretches (now (file .entry))) sequence ⌝ }
+{
+    if sequence == 0 {
+        return Found::Nowhere;
+    }
+    let mut w = Walk::begin();
+    let mut before = sequence - 1;
+    loop {
+        match advance(file, w) {
+            Onward::Whole(stretch, n) => {
+                if before == 0 {
+                    return Found::There(stretch);
+                }
+                before = before - 1;
+                w = n;
+            }
+            Onward::Stopped(_) => {
+                return Found::Nowhere;
+            }
+        }
+    }
+}

@@ -1,0 +1,153 @@
+// One step of the walk over a file.
+ghost use mathlib.Core.Path.{_≡_};
+ghost use Prim.Native.Nat.{_+_, _≤_, _<_, _^_};
+ghost use lib.ListN.{length};
+ghost use Rattle.cut.specs.Cut.{cutAt};
+ghost use Rattle.generic.specs.Generic.{genericAt};
+ghost use Rattle.moment.specs.Moment.{momentAt};
+ghost use Rattle.radial.specs.Radial.{radialAt};
+ghost use Rattle.site.specs.Site.{siteAt};
+ghost use Rattle.task.specs.Task.{taskAt};
+ghost use Rattle.walk.specs.Due.{sizeOf};
+ghost use Rattle.reading.specs.Step.{settle as settleOf, takeGeneric, takeSite, takeTask, takeCut, takeRadial, takeMoment, cutIn, blockAt, stepOf};
+use cut::Cut;
+use generic::Generic;
+use moment::Moment;
+use radial::Radial;
+use rules::check::Check;
+use site::Site;
+use task::Task;
+use walk::after;
+use walk::due::Due;
+use walk::due::Walk;
+use walk::due::cut_place;
+use walk::due::is_end;
+use walk::due::size_at;
+
+pub enum Step {
+    // The due block is there and keeps its rules: the walk after it.
+    Took(Walk),
+    // It is there and breaks one: the refusal's number and place.
+    Refused(u32, usize),
+    // This many of its bytes are missing.
+    Open(usize),
+    // No block is due, and no byte follows.
+    Complete,
+}
+
+// A block that keeps its rules is taken.
+fn settle(check: Check, at: usize, next: Walk) -> Step
+    requires { ⌜ at < 2 ^ 63 ⌝ }
+    ensures { λ r. ⌜ r ≡ settleOf check at next ⌝ }
+{
+    match check {
+        Check::Fine => Step::Took(next),
+        Check::Broken(n, p) => Step::Refused(n, at + (p as usize)),
+    }
+}
+
+// Each block below is found in p, the file up to the block's end.
+fn generic(p: &[u8], w: Walk) -> Step
+    requires { ⌜ length (now p) ≡ w .at + 32 ⌝ }
+    ensures { λ r. ⌜ r ≡ takeGeneric (genericAt (now (p .entry)) (w .at)) w ⌝ }
+{
+    let at = w.at;
+    let r = Generic::read(p, at);
+    settle(r.check(), at, after::generic(w, p.len()))
+}
+
+fn site(p: &[u8], w: Walk) -> Step
+    requires { ⌜ length (now p) ≡ w .at + 128 ⌝ }
+    ensures { λ r. ⌜ r ≡ takeSite (siteAt (now (p .entry)) (w .at)) w ⌝ }
+{
+    let at = w.at;
+    let r = Site::read(p, at);
+    settle(r.check(), at, after::site(w, p.len()))
+}
+
+fn task(p: &[u8], w: Walk) -> Step
+    requires { ⌜ length (now p) ≡ w .at + 256 ⌝ }
+    ensures { λ r. ⌜ r ≡ takeTask (taskAt (now (p .entry)) (w .at)) w ⌝ }
+{
+    let at = w.at;
+    let r = Task::read(p, at);
+    settle(
+        r.check(),
+        at,
+        after::task(r.scan_type, r.cut_number, w, p.len()),
+    )
+}
+
+fn cut(p: &[u8], w: Walk) -> Step
+    requires { ⌜ length (now p) ≡ w .at + 256 ⌝ }
+    ensures { λ r. ⌜ r ≡ takeCut (cutAt (now (p .entry)) (w .at)) w ⌝ }
+{
+    let at = w.at;
+    let r = Cut::read(p, at);
+    settle(r.check(), at, after::cut(w, p.len()))
+}
+
+fn radial(p: &[u8], w: Walk) -> Step
+    requires { ⌜ length (now p) ≡ w .at + 64 ⌝ }
+    ensures { λ r. ⌜ r ≡ takeRadial (radialAt (now (p .entry)) (w .at)) (cutIn (now (p .entry)) w) w ⌝ }
+{
+    let at = w.at;
+    let r = Radial::read(p, at);
+    let place = cut_place(w.count.cut);
+    let mask = le::u64_at(p, place + Cut::MOMENTS_MASK);
+    let sizes = le::u64_at(p, place + Cut::SIZE_MASK);
+    settle(
+        r.check(w.radial_due()),
+        at,
+        after::radial(r, mask, sizes, w, p.len()),
+    )
+}
+
+fn moment(p: &[u8], w: Walk) -> Step
+    requires { ⌜ length (now p) ≡ w .at + 32 ⌝ }
+    ensures { λ r. ⌜ r ≡ takeMoment (momentAt (now (p .entry)) (w .at)) w ⌝ }
+{
+    let at = w.at;
+    let r = Moment::read(p, at);
+    settle(r.check(w.moment_due()), at, after::moment(r, w, p.len()))
+}
+
+fn block(p: &[u8], w: Walk) -> Step
+    requires { ⌜ length (now p) ≡ w .at + sizeOf w ⌝ }
+    ensures { λ r. ⌜ r ≡ blockAt (w .due) (now (p .entry)) w ⌝ }
+{
+    let due = w.due;
+    match due {
+        Due::Generic => generic(p, w),
+        Due::Site => site(p, w),
+        Due::Task => task(p, w),
+        Due::Cut => cut(p, w),
+        Due::Radial => radial(p, w),
+        Due::Moment => moment(p, w),
+        Due::Data => Step::Took(after::data(w, p.len())),
+        Due::Nothing => Step::Complete,
+    }
+}
+
+// A block is looked at only when all its bytes are there.
+pub(crate) fn step_at(file: &[u8], w: Walk) -> Step
+    requires { ⌜ w .at ≤ length (now file) ⌝ }
+    ensures { λ r. ⌜ r ≡ stepOf (now (file .entry)) w ⌝ }
+{
+    let at = w.at;
+    let due = w.due;
+    let length = w.rest.length;
+    if is_end(due) {
+        if at < file.len() {
+            return Step::Refused(25, at);
+        }
+        return Step::Complete;
+    }
+    let size = size_at(due, length);
+    let here = file.len() - at;
+    if here < size {
+        return Step::Open(size - here);
+    }
+    let end = at + size;
+    block(&file[..end], w)
+}

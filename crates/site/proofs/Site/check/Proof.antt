@@ -1,0 +1,20 @@
+use borrow.Author.Needs.{needs}
+use Rattle.site.specs.Site.{siteCheck}
+use Rattle.site.proofs.Site.check.Statement.{statement}
+use Rattle.site.proofs.Site.check.Tie as tie
+
+returns : tie.Need-returns
+unfolding siteCheck
+returns c = rw (
+  c .also2 .ensures,
+  c .before .longitude-ok .ensures,
+  c .before .before .also .ensures,
+  c .before .before .before .latitude-ok .ensures,
+)
+
+pub check-spec : {M : Type 1} → statement M
+check-spec =
+    tie.close
+    (tie.spec
+    (λ c κs. search needs) (λ c. search needs) (λ c κs. search needs) (λ c κs. search needs) (λ c. search needs) (λ c κs. search needs)
+    returns)
