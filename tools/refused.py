@@ -10,7 +10,7 @@ import glob
 import re
 import sys
 
-LINE = re.compile(r'^fn (\S+): not proved(?:; it calls `([^`]+)`)?', re.M)
+LINE = re.compile(r'^fn (\S+): (?:not proved|no proof)(?:; it calls `([^`]+)`)?', re.M)
 
 
 def public():
