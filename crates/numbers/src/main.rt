@@ -1,7 +1,11 @@
 // Runs the numbers of document 01 that are run ("Numbers to try"): for each file, a line of what reading tells, its
 // verdict, the bytes read and the whole radials.
 ghost use Prim.Native.Nat.{_≤_};
-use libc::STDOUT_FILENO;
+use printing::first;
+use printing::number;
+use printing::print_reading;
+use printing::print_verdict;
+use printing::word;
 use reading::Reading;
 use reading::Verdict;
 
@@ -73,52 +77,13 @@ fn small() -> [u8; 873] {
     v
 }
 
-fn word(text: &[u8]) {
-    io::write_all(STDOUT_FILENO, text);
-}
-
-fn number(n: u64) {
-    word(b" ");
-    io::print_decimal(STDOUT_FILENO, n);
-}
-
-fn print_verdict(v: Verdict) {
-    match v {
-        Verdict::Complete => {
-            word(b" complete");
-        }
-        Verdict::Open(missing) => {
-            word(b" open");
-            number(missing as u64);
-        }
-        Verdict::Refused(n, place) => {
-            word(b" refused");
-            number(n as u64);
-            number(place as u64);
-        }
-    }
-}
-
-fn print_counts(r: Reading) {
-    number(r.read as u64);
-    number(r.radials as u64);
-    word(b"\n");
-}
-
-// What reading tells of the first n bytes, or of all where there are fewer.
 fn read_first(file: &[u8], n: usize) -> Reading {
-    if n <= file.len() {
-        return reading::read(&file[0..n]);
-    }
-    reading::read(file)
+    reading::read(first(file, n))
 }
 
 fn tell(label: &[u8], volume: &[u8; 873], n: usize) {
-    let r = read_first(volume, n);
     word(label);
-    let v = r.verdict;
-    print_verdict(v);
-    print_counts(r);
+    print_reading(read_first(volume, n));
 }
 
 fn wrong_magic() {
@@ -195,19 +160,16 @@ fn run_end(file: &[u8], first: usize) -> usize
 }
 
 fn print_run(file: &[u8], first: usize, last: usize) {
-    let r = read_first(file, first);
-    let s = read_first(file, last);
-    let v = r.verdict;
-    let w = s.verdict;
     word(b"prefixes");
     number(first as u64);
     word(b" to");
     number(last as u64);
     word(b":");
+    let r = read_first(file, first);
+    let v = r.verdict;
     print_verdict(v);
     word(b" to");
-    print_verdict(w);
-    print_counts(s);
+    print_reading(read_first(file, last));
 }
 
 // Every prefix of the small volume, by runs of lengths at which the same is read and each byte more wants one less.

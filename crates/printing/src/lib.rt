@@ -1,4 +1,4 @@
-// Words, numbers and listings on standard output: what the programs share.
+// What the programs share: words, numbers and listings on standard output, and the start of a slice.
 use libc::STDOUT_FILENO;
 use listing::Cursor;
 use listing::Line;
@@ -6,25 +6,39 @@ use listing::Next;
 use reading::Reading;
 use reading::Verdict;
 
+// The first n bytes, or all where there are fewer.
+pub fn first(s: &[u8], n: usize) -> &[u8] {
+    if n <= s.len() {
+        return &s[0..n];
+    }
+    s
+}
+
 pub fn word(text: &[u8]) {
     io::write_all(STDOUT_FILENO, text);
 }
 
-pub fn number(n: u64) {
-    word(b" ");
+pub fn newline() {
+    word(b"\n");
+}
+
+// With nothing before it, for a number that another sign than a space parts from the last.
+pub fn bare(n: u64) {
     io::print_decimal(STDOUT_FILENO, n);
 }
 
-pub fn print_refused(n: u32, place: usize) {
-    word(b" refused");
-    number(n as u64);
-    number(place as u64);
+pub fn number(n: u64) {
+    word(b" ");
+    bare(n);
 }
 
-// The verdict, the bytes read and the whole radials.
-pub fn print_reading(r: Reading) {
-    let verdict = r.verdict;
-    match verdict {
+pub fn refused(n: u32) {
+    word(b" refused");
+    number(n as u64);
+}
+
+pub fn print_verdict(v: Verdict) {
+    match v {
         Verdict::Complete => {
             word(b" complete");
         }
@@ -33,12 +47,19 @@ pub fn print_reading(r: Reading) {
             number(missing as u64);
         }
         Verdict::Refused(n, place) => {
-            print_refused(n, place);
+            refused(n);
+            number(place as u64);
         }
     }
+}
+
+// The verdict, the bytes read and the whole radials.
+pub fn print_reading(r: Reading) {
+    let verdict = r.verdict;
+    print_verdict(verdict);
     number(r.read as u64);
     number(r.radials as u64);
-    word(b"\n");
+    newline();
 }
 
 fn print_line(line: Line) {
@@ -66,7 +87,7 @@ fn print_line(line: Line) {
             number(gates as u64);
         }
     }
-    word(b"\n");
+    newline();
 }
 
 // Every whole radial and its moments, a line each.

@@ -2,18 +2,18 @@
 use crate::print::colon;
 use crate::print::mix;
 use crate::print::mix_signed;
-use crate::print::newline;
-use crate::print::number;
 use crate::print::part;
 use crate::print::refused;
 use crate::print::signed;
 use crate::print::space;
-use crate::print::word;
 use ask::answers;
 use ask::answers::GateAnswer;
 use gates::Gate;
 use gates::Told;
 use libc::STDOUT_FILENO;
+use printing::newline;
+use printing::number;
+use printing::word;
 
 // The bits of a value's float. No value is a NaN; the test saves the proof of that.
 fn bits_of(v: f64) -> u64 {
@@ -69,7 +69,7 @@ fn print_gate(file: &[u8], sequence: u32, t: u32, i: usize) -> bool {
 }
 
 // A line for each gate, to the first that is refused. No moment of the volume has 20 gates.
-pub fn print_each(file: &[u8], sequence: u32, t: u32) {
+pub(crate) fn print_each(file: &[u8], sequence: u32, t: u32) {
     let mut i = 0;
     while i < 20 {
         if !print_gate(file, sequence, t, i) {
@@ -118,7 +118,7 @@ fn print_refusal(answer: GateAnswer) {
 }
 
 // What is told past all gates, and the checksum.
-pub fn print_all(file: &[u8], sequence: u32, t: u32) {
+pub(crate) fn print_all(file: &[u8], sequence: u32, t: u32) {
     print_refusal(answers::gate(file, sequence as usize, t, 18446744073709551615));
     part(sum(file, sequence, t));
 }

@@ -1,24 +1,22 @@
 // The lines of a section: for each sequence number or cut that is asked, the answers for every type that is asked.
 use crate::gates_told;
-use crate::print::bare;
 use crate::print::colon;
-use crate::print::newline;
-use crate::print::number;
 use crate::print::part;
 use crate::print::refused;
 use crate::print::space;
 use crate::print::wide;
-use crate::print::word;
 use crate::rows_told;
+use crate::tallies_told;
 use ask::answers;
 use ask::answers::RadialAnswer;
-use ask::tallies;
-use ask::tallies::Tally;
-use ask::tallies::TallyAnswer;
 use moment::Moment;
+use printing::bare;
+use printing::newline;
+use printing::number;
+use printing::word;
 use radial::Radial;
 
-pub enum Question {
+pub(crate) enum Question {
     Moments,
     Gates,
     Rows,
@@ -82,30 +80,12 @@ fn print_moment(file: &[u8], sequence: u32, t: u32) {
     print_ends(bytes);
 }
 
-fn print_counts(tally: Tally) {
-    let c = tally.counts;
-    bare(tally.radials);
-    part(c.below);
-    part(c.folded);
-    part(c.not_scanned);
-    part(c.unknown);
-    part(c.reserved);
-    part(c.value);
-}
-
-fn print_tally(file: &[u8], cut: u32, t: u32) {
-    match tallies::tally_of(file, cut, t) {
-        TallyAnswer::Counted(tally) => print_counts(tally),
-        TallyAnswer::Refused(n) => refused(n),
-    }
-}
-
 fn print_answer(file: &[u8], question: Question, k: u32, t: u32) {
     match question {
         Question::Moments => print_moment(file, k, t),
         Question::Gates => gates_told::print_all(file, k, t),
         Question::Rows => rows_told::print_row(file, k, t, 16, 16),
-        Question::Tallies => print_tally(file, k, t),
+        Question::Tallies => tallies_told::print_tally(file, k, t),
     }
 }
 
@@ -151,7 +131,7 @@ fn print_line(file: &[u8], question: Question, k: u32) {
 }
 
 // A line for each number below an end.
-pub fn print_lines(file: &[u8], question: Question, end: u32) {
+pub(crate) fn print_lines(file: &[u8], question: Question, end: u32) {
     let mut k = 0;
     while k < end {
         print_line(file, question, k);
@@ -159,7 +139,7 @@ pub fn print_lines(file: &[u8], question: Question, end: u32) {
     }
 }
 
-pub fn print_radials(file: &[u8], end: u32) {
+pub(crate) fn print_radials(file: &[u8], end: u32) {
     let mut k = 0;
     while k < end {
         print_radial(file, k);

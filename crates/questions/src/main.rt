@@ -1,18 +1,19 @@
 // Asks of the volume on standard input, and of shortened and damaged copies of it, what is told of radials, moments,
 // gates, rows and tallies (document 01, "What reading tells"), and prints the answers. The places named below are those
 // of the volume `rich` of tools/volumes.py, of 2,330 bytes, eight radials and three cuts.
-ghost use Prim.Native.Nat.{_<_};
 
 mod gates_told;
 mod lines;
 mod print;
 mod rows_told;
+mod tallies_told;
 
 use crate::lines::Question;
-use crate::print::newline;
-use crate::print::number;
-use crate::print::word;
 use libc::STDIN_FILENO;
+use printing::first;
+use printing::newline;
+use printing::number;
+use printing::word;
 
 // The sequence numbers asked are those below this: to one past the last whole radial, and at most to 9.
 fn end_of(radials: usize) -> u32 {
@@ -58,14 +59,6 @@ fn short_rooms(file: &[u8]) {
     rows_told::print_lent(file, 1, 4, 0, 0);
 }
 
-// The first n bytes, or all where there are fewer.
-fn first(file: &[u8], n: usize) -> &[u8] {
-    if n < file.len() {
-        return &file[..n];
-    }
-    file
-}
-
 fn prefixes(file: &[u8]) {
     section(b"one byte short", first(file, 2329));
     section(b"cut in radial 3", first(file, 1600));
@@ -73,14 +66,21 @@ fn prefixes(file: &[u8]) {
     section(b"empty", first(file, 0));
 }
 
+// Puts a byte at a place, and answers the one that it held. Past the end there is no place, and nothing changes.
+fn exchange(buf: &mut [u8; 65536], place: usize, value: u8) -> u8 {
+    if place < 65536 {
+        let old = buf[place];
+        buf[place] = value;
+        return old;
+    }
+    value
+}
+
 // The file with another byte at a place, which holds the old one again afterwards.
-fn damaged(label: &[u8], buf: &mut [u8; 65536], n: usize, place: usize, value: u8)
-    requires { ⌜ place < 65536 ⌝ }
-{
-    let old = buf[place];
-    buf[place] = value;
+fn damaged(label: &[u8], buf: &mut [u8; 65536], n: usize, place: usize, value: u8) {
+    let old = exchange(buf, place, value);
     section(label, first(buf, n));
-    buf[place] = old;
+    exchange(buf, place, old);
 }
 
 fn main() {

@@ -1,19 +1,19 @@
 // Rows, in rooms whose places hold a mark before.
 ghost use Prim.Native.Nat.{_≤_};
-use crate::print::bare;
 use crate::print::colon;
 use crate::print::mix;
 use crate::print::mix_signed;
-use crate::print::newline;
-use crate::print::number;
 use crate::print::part;
 use crate::print::refused;
 use crate::print::signed_part;
 use crate::print::space;
 use crate::print::wide;
-use crate::print::word;
 use ask::answers;
 use gates::RowAnswer;
+use printing::bare;
+use printing::newline;
+use printing::number;
+use printing::word;
 
 fn print_answer(answer: RowAnswer) {
     match answer {
@@ -44,6 +44,13 @@ fn print_rooms(kinds: &[u8; 16], hundredths: &[i32; 16]) {
     part(sum(kinds, hundredths));
 }
 
+// The rooms have 16 places.
+fn at_most_all(lent: usize) -> usize
+    ensures { λ r. ⌜ r ≤ 16 ⌝ }
+{
+    if lent < 16 { lent } else { 16 }
+}
+
 // A row, with the first so many places of each room lent.
 pub(crate) fn print_row(
     file: &[u8],
@@ -51,17 +58,17 @@ pub(crate) fn print_row(
     t: u32,
     kinds_lent: usize,
     hundredths_lent: usize,
-)
-    requires { ⌜ («kinds_lent» ≤ 16) × («hundredths_lent» ≤ 16) ⌝ }
-{
+) {
     let mut kinds = [9u8; 16];
     let mut hundredths = [7i32; 16];
+    let k = at_most_all(kinds_lent);
+    let h = at_most_all(hundredths_lent);
     let answer = answers::row(
         file,
         sequence as usize,
         t,
-        &mut kinds[..kinds_lent],
-        &mut hundredths[..hundredths_lent],
+        &mut kinds[0..k],
+        &mut hundredths[0..h],
     );
     print_answer(answer);
     print_rooms(&kinds, &hundredths);
@@ -74,9 +81,7 @@ pub(crate) fn print_lent(
     t: u32,
     kinds_lent: usize,
     hundredths_lent: usize,
-)
-    requires { ⌜ («kinds_lent» ≤ 16) × («hundredths_lent» ≤ 16) ⌝ }
-{
+) {
     word(b"row");
     number(sequence as u64);
     number(t as u64);

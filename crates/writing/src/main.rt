@@ -5,7 +5,6 @@ mod refusals;
 mod telling;
 mod volumes;
 
-use crate::telling::first;
 use crate::telling::print_bytes;
 use crate::telling::sum;
 use crate::telling::yes;
@@ -14,31 +13,41 @@ use crate::volumes::put_front;
 use crate::volumes::put_pair;
 use crate::volumes::put_radials;
 use index::Answer;
+use printing::first;
+use printing::newline;
 use printing::number;
+use printing::refused;
 use printing::word;
 use walk::due::Walk;
 
-// The index of a file, whether it is right, and whether it is with one byte changed.
+// Whether the first n bytes of a room are the index of a file.
+fn print_right(file: &[u8], room: &[u8], n: usize) {
+    yes(index::right(file, first(room, n)));
+}
+
+// The index, whether it is right, and whether it is with a byte changed in the place of the second radial.
+fn print_written(file: &[u8], room: &mut [u8; 100], n: usize) {
+    number(n as u64);
+    word(b" ");
+    print_bytes(first(room, n));
+    print_right(file, room, n);
+    room[22] = 255;
+    print_right(file, room, n);
+}
+
 fn print_index(file: &[u8]) {
     let mut room = [0xa5u8; 100];
     let answer = index::write(file, &mut room);
+    word(b"index");
     match answer {
         Answer::Written(n) => {
-            word(b"index");
-            number(n as u64);
-            word(b" ");
-            print_bytes(first(&room, n));
-            yes(index::right(file, first(&room, n)));
-            // in the place of the second radial
-            room[22] = 255;
-            yes(index::right(file, first(&room, n)));
+            print_written(file, &mut room, n);
         }
         Answer::Refused(n) => {
-            word(b"index refused");
-            number(n as u64);
+            refused(n);
         }
     }
-    word(b"\n");
+    newline();
 }
 
 fn print_volume(scan_type: u32, moments: u8, room: &[u8], w: Walk) {
@@ -52,7 +61,7 @@ fn print_volume(scan_type: u32, moments: u8, room: &[u8], w: Walk) {
     printing::print_lines(file);
     word(b"room");
     number(sum(room) as u64);
-    word(b"\n");
+    newline();
     print_index(file);
 }
 
@@ -73,12 +82,12 @@ fn upright(scan_type: u32, moments: u8) {
 
 fn three_cuts(scan_type: u32, moments: u8) {
     let mut room = [0xa5u8; 2500];
-    let r = put_front(&mut room, scan_type, 3);
-    let s = put_cut(r, &mut room);
-    let t = put_cut(s, &mut room);
-    let u = put_radials(t, &mut room, moments, 1, 3, 2);
-    let v = put_radials(u, &mut room, moments, 2, 0, 2);
-    let w = put_radials(v, &mut room, moments, 3, 0, 4);
+    let mut w = put_front(&mut room, scan_type, 3);
+    w = put_cut(w, &mut room);
+    w = put_cut(w, &mut room);
+    w = put_radials(w, &mut room, moments, 1, 3, 2);
+    w = put_radials(w, &mut room, moments, 2, 0, 2);
+    w = put_radials(w, &mut room, moments, 3, 0, 4);
     print_volume(scan_type, moments, &room, w);
 }
 

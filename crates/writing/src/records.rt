@@ -1,5 +1,4 @@
 // The records that the program hands to the writer: all zeros but for the fields that a rule asks for, and a few more.
-ghost use Prim.Native.Nat.{_≤_};
 use cut::Cut;
 use generic::Generic;
 use moment::Moment;
@@ -7,7 +6,7 @@ use radial::Radial;
 use site::Site;
 use task::Task;
 
-pub fn generic() -> Generic {
+pub(crate) fn generic() -> Generic {
     let mut r = Generic::read(b"", 0);
     r.magic = Generic::MAGIC_WORD;
     r.major = 1;
@@ -16,14 +15,14 @@ pub fn generic() -> Generic {
 }
 
 // Latitude 30.5, longitude 114.25.
-pub fn site() -> Site {
+pub(crate) fn site() -> Site {
     let mut r = Site::read(b"", 0);
     r.latitude = 0x41f4_0000;
     r.longitude = 0x42e4_8000;
     r
 }
 
-pub fn task(scan_type: u32, cuts: u32) -> Task {
+pub(crate) fn task(scan_type: u32, cuts: u32) -> Task {
     let mut r = Task::read(b"", 0);
     r.polarization = 1;
     r.scan_type = scan_type;
@@ -33,7 +32,7 @@ pub fn task(scan_type: u32, cuts: u32) -> Task {
 }
 
 // Moments of type 2 have one byte a gate, those of type 4 have two.
-pub fn cut() -> Cut {
+pub(crate) fn cut() -> Cut {
     let mut r = Cut::read(b"", 0);
     r.process_mode = 1;
     r.unfold_mode = 1;
@@ -46,12 +45,12 @@ pub fn cut() -> Cut {
 }
 
 // What is told apart from radial to radial. Its moments: 1 is one of one-byte gates, 2 one of two-byte gates, 3 both.
-pub struct Facts {
-    pub moments: u8,
-    pub state: u8,
-    pub sequence: u8,
-    pub number: u8,
-    pub cut: u8,
+pub(crate) struct Facts {
+    pub(crate) moments: u8,
+    pub(crate) state: u8,
+    pub(crate) sequence: u8,
+    pub(crate) number: u8,
+    pub(crate) cut: u8,
 }
 
 // The bytes of a radial's moments.
@@ -71,7 +70,7 @@ fn moment_number(moments: u8) -> u32 {
 }
 
 // Azimuth 0.5, elevation 1.5.
-pub fn radial(f: Facts) -> Radial {
+pub(crate) fn radial(f: Facts) -> Radial {
     let mut r = Radial::read(b"", 0);
     r.state = f.state as u32;
     r.sequence = f.sequence as u32;
@@ -86,9 +85,7 @@ pub fn radial(f: Facts) -> Radial {
 }
 
 // A moment of four gates, by its type and the bytes of a gate.
-pub(crate) fn moment(data_type: u32, bytes: u16) -> Moment
-    requires { ⌜ bytes ≤ 2 ⌝ }
-{
+pub(crate) fn moment(data_type: u32, bytes: u16) -> Moment {
     let mut r = Moment::read(b"", 0);
     r.data_type = data_type;
     r.scale = 2;

@@ -1,15 +1,18 @@
 // Each refusal of the writer and of the index, once: the answer, and that the room and the state stay as they were.
 use crate::records;
 use crate::records::Facts;
-use crate::telling::first;
 use crate::telling::onward;
 use crate::telling::print_put;
+use crate::telling::print_rooms;
 use crate::telling::sum;
 use crate::volumes::put_front;
 use crate::volumes::put_pair;
 use crate::volumes::put_start;
 use index::Answer;
+use printing::first;
+use printing::newline;
 use printing::number;
+use printing::refused;
 use printing::word;
 use radial::Radial;
 use walk::due::Walk;
@@ -84,16 +87,20 @@ fn short_data() {
     print_put(b"35, three bytes of four", w, before, p, &room);
 }
 
-// States and rooms that do not agree.
-fn other_states() {
+// States whose count of bytes does not agree with the room.
+fn other_ends() {
+    let mut room = [0xa5u8; 1000];
+    let mut w = put_front(&mut room, 0, 1);
+    w.at = 1001;
+    try_radial(b"37, more bytes than the room has", w, &mut room);
+    w.at = 600;
+    try_radial(b"37, the end is inside a block", w, &mut room);
+}
+
+// A state and a room that do not agree on what is written.
+fn other_blocks() {
     let mut room = [0xa5u8; 1000];
     let w = put_front(&mut room, 0, 1);
-    let mut far = w;
-    far.at = 1001;
-    try_radial(b"37, more bytes than the room has", far, &mut room);
-    let mut inside = w;
-    inside.at = 600;
-    try_radial(b"37, the end is inside a block", inside, &mut room);
     let mut other = w;
     other.plan.cuts = 2;
     try_radial(b"37, another number of cuts", other, &mut room);
@@ -101,25 +108,27 @@ fn other_states() {
     try_radial(b"37, another first byte", w, &mut room);
 }
 
+fn print_answer(answer: Answer) {
+    match answer {
+        Answer::Written(n) => {
+            word(b" written");
+            number(n as u64);
+        }
+        Answer::Refused(n) => {
+            refused(n);
+        }
+    }
+}
+
 // The room of an index, before and after what is refused.
 fn try_index(label: &[u8], file: &[u8], room: &mut [u8]) {
     let before = sum(room);
     let answer = index::write(file, room);
     word(label);
-    match answer {
-        Answer::Written(n) => {
-            word(b": written");
-            number(n as u64);
-        }
-        Answer::Refused(n) => {
-            word(b": refused");
-            number(n as u64);
-        }
-    }
-    word(b", room");
-    number(before as u64);
-    number(sum(room) as u64);
-    word(b"\n");
+    word(b":");
+    print_answer(answer);
+    print_rooms(before, room);
+    newline();
 }
 
 fn index_refusals() {
@@ -138,12 +147,13 @@ fn index_refusals() {
     );
 }
 
-pub fn run() {
+pub(crate) fn run() {
     after_the_end();
     another_kind();
     fifty_one_cuts();
     short_data();
     short_room();
-    other_states();
+    other_ends();
+    other_blocks();
     index_refusals();
 }

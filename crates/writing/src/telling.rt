@@ -1,13 +1,14 @@
 // What the program prints.
 use libc::STDOUT_FILENO;
+use printing::newline;
 use printing::number;
-use printing::print_refused;
+use printing::refused;
 use printing::word;
 use walk::due::Walk;
 use writer::order::Answer;
 use writer::order::Put;
 
-pub fn yes(b: bool) {
+pub(crate) fn yes(b: bool) {
     if b {
         word(b" yes");
     } else {
@@ -15,20 +16,12 @@ pub fn yes(b: bool) {
     }
 }
 
-// The first n bytes, or all where there are fewer.
-pub fn first(s: &[u8], n: usize) -> &[u8] {
-    if n <= s.len() {
-        return &s[0..n];
-    }
-    s
-}
-
 fn mixed(sum: u32, byte: u8) -> u32 {
     ((31 * (sum as u64) + (byte as u64)) % 4294967296) as u32
 }
 
 // The bytes of a room in one number, which a change of any one byte changes.
-pub fn sum(s: &[u8]) -> u32 {
+pub(crate) fn sum(s: &[u8]) -> u32 {
     let mut n = 0;
     let mut i = 0;
     while i < s.len() {
@@ -42,7 +35,7 @@ fn print_byte(byte: u8) {
     io::print_hex(STDOUT_FILENO, byte as u64, 2);
 }
 
-pub fn print_bytes(s: &[u8]) {
+pub(crate) fn print_bytes(s: &[u8]) {
     let mut i = 0;
     while i < s.len() {
         print_byte(s[i]);
@@ -51,24 +44,30 @@ pub fn print_bytes(s: &[u8]) {
 }
 
 // The state that a put leaves. Of an answer only a refusal is printed.
-pub fn onward(p: Put) -> Walk {
+pub(crate) fn onward(p: Put) -> Walk {
     let answer = p.answer;
     if let Answer::Refused(n, place) = answer {
-        print_refused(n, place);
+        refused(n);
+        number(place as u64);
     }
     p.walk
 }
 
-// What a put that is to be refused answers; then, before and after it, the room's sum and the state's count of bytes.
-pub fn print_put(label: &[u8], w: Walk, before: u32, p: Put, room: &[u8]) {
-    word(label);
-    word(b":");
-    let after = onward(p);
+// The sums of a room before and after.
+pub(crate) fn print_rooms(before: u32, room: &[u8]) {
     word(b", room");
     number(before as u64);
     number(sum(room) as u64);
+}
+
+// What a put that is to be refused answers; then, before and after it, the room's sum and the state's count of bytes.
+pub(crate) fn print_put(label: &[u8], w: Walk, before: u32, p: Put, room: &[u8]) {
+    word(label);
+    word(b":");
+    let after = onward(p);
+    print_rooms(before, room);
     word(b", written");
     number(w.at as u64);
     number(after.at as u64);
-    word(b"\n");
+    newline();
 }

@@ -6,7 +6,7 @@ use crate::telling::onward;
 use walk::due::Walk;
 
 // The blocks before the task.
-pub fn put_start(room: &mut [u8]) -> Walk {
+pub(crate) fn put_start(room: &mut [u8]) -> Walk {
     let w = onward(writer::put_generic(Walk::begin(), room, records::generic()));
     onward(writer::put_site(w, room, records::site()))
 }
@@ -15,12 +15,12 @@ fn put_task(w: Walk, room: &mut [u8], scan_type: u32, cuts: u32) -> Walk {
     onward(writer::put_task(w, room, records::task(scan_type, cuts)))
 }
 
-pub fn put_cut(w: Walk, room: &mut [u8]) -> Walk {
+pub(crate) fn put_cut(w: Walk, room: &mut [u8]) -> Walk {
     onward(writer::put_cut(w, room, records::cut()))
 }
 
 // The blocks up to the first cut's.
-pub fn put_front(room: &mut [u8], scan_type: u32, cuts: u32) -> Walk {
+pub(crate) fn put_front(room: &mut [u8], scan_type: u32, cuts: u32) -> Walk {
     let w = put_start(room);
     let v = put_task(w, room, scan_type, cuts);
     put_cut(v, room)
@@ -52,6 +52,17 @@ fn put_radial(w: Walk, room: &mut [u8], f: Facts) -> Walk {
     }
 }
 
+// The sequence number of a cut's first radial, where each cut has three.
+fn first_sequence(cut: u8) -> u8
+    ensures { λ r. ⌜ r ≤ 7 ⌝ }
+{
+    match cut {
+        1 => 1,
+        2 => 4,
+        _ => 7,
+    }
+}
+
 // The three radials of a cut, by the states of the first and the last.
 pub(crate) fn put_radials(
     w: Walk,
@@ -60,28 +71,26 @@ pub(crate) fn put_radials(
     cut: u8,
     opening: u8,
     closing: u8,
-) -> Walk
-    requires { ⌜ (1 ≤ cut) × (cut ≤ 3) ⌝ }
-{
-    let before = 3 * (cut - 1);
+) -> Walk {
+    let sequence = first_sequence(cut);
     let first = Facts {
         moments,
         state: opening,
-        sequence: before + 1,
+        sequence,
         number: 1,
         cut,
     };
     let second = Facts {
         moments,
         state: 1,
-        sequence: before + 2,
+        sequence: sequence + 1,
         number: 2,
         cut,
     };
     let third = Facts {
         moments,
         state: closing,
-        sequence: before + 3,
+        sequence: sequence + 2,
         number: 3,
         cut,
     };
@@ -91,7 +100,7 @@ pub(crate) fn put_radials(
 }
 
 // One cut of two radials.
-pub fn put_pair(room: &mut [u8], scan_type: u32, moments: u8) -> Walk {
+pub(crate) fn put_pair(room: &mut [u8], scan_type: u32, moments: u8) -> Walk {
     let w = put_front(room, scan_type, 1);
     let first = Facts {
         moments,
