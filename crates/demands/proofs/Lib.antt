@@ -1,1 +1,3 @@
-pub mod Demands
+pub mod One
+pub mod Two
+pub mod Three

@@ -1,37 +1,107 @@
 -- DEMAND 1: every file and every question gets an ending and an answer.
--- No entry point has a condition on its caller, and each promise fixes the result and everything lent on every input. Here:
--- that what is promised leaves no choice. Two readings, two gates or two rows that keep the same promise are the same.
+-- No public function has a condition on its caller, so each promise answers every input. Here: that every file has an
+-- ending; the numbers, the places and the order of the refusals; that everything lent is then what it was; and that no
+-- promise leaves a choice.
+use mathlib.Core.Bool.{true, false}
 use mathlib.Core.List.{List, [], _∷_}
 use mathlib.Core.Path.{_≡_}
-use Prim.Native.Nat.{ℕ}
+use Prim.Native.Nat.{ℕ, _+_, _≤_, _<_}
 use lib.IntN.{ℤ}
+use lib.ListN.{length}
+use Rattle.le.specs.Le.{stored}
 use Rattle.gates.specs.declared.Coding.{Coding}
 use Rattle.gates.specs.declared.Gate.{Gate}
 use Rattle.gates.specs.declared.RowAnswer.{RowAnswer}
+use Rattle.gates.specs.declared.RowAnswer.the-variants as row
+use Rattle.gates.specs.Codes.{codesOf}
 use Rattle.gates.specs.Gates.{toldGate}
 use Rattle.gates.specs.Rows.{Rowed}
+use Rattle.moment.specs.Moment.{momentAt}
+use Rattle.moments.specs.Moments.{dataAt}
+use Rattle.walk.specs.declared.due.Walk.{Walk}
+use Rattle.walk.specs.Due.{isEnd}
+use Rattle.reading.specs.declared.Found.the-variants.{Nowhere}
 use Rattle.reading.specs.declared.Reading.{Reading}
+use Rattle.reading.specs.declared.Stretch.{Stretch}
 use Rattle.reading.specs.declared.Verdict.{Verdict}
+use Rattle.reading.specs.declared.step.Step.the-variants as step
+use Rattle.reading.specs.Growth.{told, bytesOf}
+use Rattle.reading.specs.Reading.{Tells, verdictTold, stretches, nth}
+use Rattle.ask.specs.declared.answers.GateAnswer.the-variants as gate
+use Rattle.ask.specs.declared.places.Where.{Where}
+use Rattle.ask.specs.declared.places.Where.the-variants.{At, NoRadial, NoMoment}
+use Rattle.ask.specs.declared.tallies.Tally.{Tally}
+use Rattle.ask.specs.declared.tallies.TallyAnswer.the-variants as tally
+use Rattle.ask.specs.Answers.{radialOfFile, momentTold, dataTold, RowTold}
+use Rattle.ask.specs.Growth.{gateAsked}
+use Rattle.ask.specs.Places.{whereIs}
+use Rattle.lent.specs.Lending.{lentOf}
+use Rattle.index.specs.declared.Answer.{Answer}
+use Rattle.index.specs.declared.Answer.the-variants as index
+use Rattle.index.specs.Answer.{Writes}
+use Rattle.writer.specs.declared.order.Answer.the-variants.{Refused}
 use Rattle.writer.specs.declared.order.Put.{Put}
-use Rattle.writer.specs.Put.{Outcome, Puts}
-use Rattle.reading.specs.Reading.{Tells, verdictTold, ending, endingTold}
+use Rattle.writer.specs.Agree.{sameKind, agrees, TestsAgreement}
+use Rattle.writer.specs.Block.{Block, kindOf, saysOf, fitsOf, lengthOf}
+use Rattle.writer.specs.Put.{Outcome, Puts, put, putOn}
 
+-- a file is complete, open with the missing bytes, or refused with number and place
+pub data Ending (f : List ℕ) : Type 0 where
+  is-complete : told f ≡ 0 ∷ [] → Ending f
+  is-open : (n : ℕ) → told f ≡ 1 ∷ n ∷ [] → Ending f
+  is-refused : (n p : ℕ) → told f ≡ 2 ∷ n ∷ p ∷ [] → Ending f
+
+-- a question on a radial that is not whole is refused by 30, on a moment that it does not have by 31, on a gate that this
+-- does not have by 32; the place is 0, and the data of a refused moment are empty
+pub record Questions (f : List ℕ) (n t : ℕ) : Type 0 where
+  pub radial : nth (stretches f) n ≡ Nowhere → (radialOfFile f n .number ≡ 30) × (radialOfFile f n .place ≡ 0)
+  pub no-radial : nth (stretches f) n ≡ Nowhere → whereIs f n t ≡ NoRadial
+  pub moment-30 : whereIs f n t ≡ NoRadial → (momentTold f (whereIs f n t) .number ≡ 30) × (dataTold f (whereIs f n t) ≡ [])
+  pub moment-31 : whereIs f n t ≡ NoMoment → (momentTold f (whereIs f n t) .number ≡ 31) × (dataTold f (whereIs f n t) ≡ [])
+  pub gate-30 : (i : ℕ) → whereIs f n t ≡ NoRadial → gateAsked f n t i ≡ gate.Refused 30
+  pub gate-31 : (i : ℕ) → whereIs f n t ≡ NoMoment → gateAsked f n t i ≡ gate.Refused 31
+  pub gate-32 : (i : ℕ) (s : Stretch) (p : ℕ) → whereIs f n t ≡ At s p
+      → length (codesOf (momentAt (bytesOf f s) p .«bin_length») (dataAt (bytesOf f s) p)) ≤ i → gateAsked f n t i ≡ gate.Refused 32
+
+-- the writer refuses in this order: 37 with place 0, where state and room do not agree; 25 after the end; 34 for another kind
+-- of block; what the reader says of the block; 35 for data of another length; 33 for a room that ends too early
+pub record WriterRefuses (b : Block) (w : Walk) (room : List ℕ) : Type 0 where
+  pub agreement : TestsAgreement w room
+  pub astray : agrees w room ≡ false → put b w room .answer ≡ Refused 37 0
+  pub ended : agrees w room ≡ true → isEnd (w .due) ≡ true → put b w room .answer ≡ Refused 25 (w .at)
+  pub kind : agrees w room ≡ true → isEnd (w .due) ≡ false → sameKind (w .due) (kindOf b) ≡ false → put b w room .answer ≡ Refused 34 (w .at)
+  pub rule : agrees w room ≡ true → isEnd (w .due) ≡ false → sameKind (w .due) (kindOf b) ≡ true
+      → (n p : ℕ) → saysOf b room w ≡ step.Refused n p → put b w room .answer ≡ Refused n p
+  pub another-length : agrees w room ≡ true → isEnd (w .due) ≡ false → sameKind (w .due) (kindOf b) ≡ true
+      → (m : Walk) → saysOf b room w ≡ step.Took m → fitsOf b w ≡ false → put b w room .answer ≡ Refused 35 (w .at)
+  pub short-room : agrees w room ≡ true → isEnd (w .due) ≡ false → sameKind (w .due) (kindOf b) ≡ true
+      → (m : Walk) → saysOf b room w ≡ step.Took m → fitsOf b w ≡ true → length room < w .at + lengthOf b → put b w room .answer ≡ Refused 33 (w .at)
+
+-- after a refusal the writer's state and room, the buffers of a row, the tally record and the room of an index or of a
+-- record are what they were
+pub record Unchanged : Type 0 where
+  pub put : (b : Block) (w : Walk) (room : List ℕ) (n p : ℕ) → put b w room .answer ≡ Refused n p → (put b w room .walk ≡ w) × (put b w room .room ≡ room)
+  pub put-on : (b : Block) (w : Walk) (room : List ℕ) (n p : ℕ) → putOn b w room .answer ≡ Refused n p
+      → (putOn b w room .walk ≡ w) × (putOn b w room .room ≡ room)
+  pub row : (f : List ℕ) (at : Where) (k k′ : List ℕ) (h h′ : List ℤ) (n : ℕ) → RowTold f at k h (row.Refused n) k′ h′ → (k′ ≡ k) × (h′ ≡ h)
+  pub tally : (old : Tally) (n : ℕ) → lentOf old (tally.Refused n) .tally ≡ old
+  pub index : (f before after : List ℕ) (n : ℕ) → Writes f before (index.Refused n) after → after ≡ before
+  pub block : (n : ℕ) (room : List ℕ) (at : ℕ) (bs : List ℕ) → length room < at + n → stored n room at bs ≡ room
+
+-- two results that keep one promise are the same: those of reading, of a gate, of a row with its buffers, of an index and of
+-- a put with its room; every other promise is an equation
 pub record Determined : Type 0 where
-  -- a verdict is what it tells, and reading tells one verdict, one number of bytes read and one of whole radials
   pub verdict : (a b : Verdict) → verdictTold a ≡ verdictTold b → a ≡ b
   pub reading : (f : List ℕ) (a b : Reading) → Tells f a → Tells f b → a ≡ b
-  -- a gate is what it tells
   pub gate : (a b : Gate) → toldGate a ≡ toldGate b → a ≡ b
-  -- a row has one answer, and leaves one content in each lent buffer
   pub row : (c : Coding) (codes k : List ℕ) (h : List ℤ) (a b : RowAnswer) (k₁ k₂ : List ℕ) (h₁ h₂ : List ℤ) → Rowed c codes k h a k₁ h₁ → Rowed c codes k h b k₂ h₂
       → (a ≡ b) × (k₁ ≡ k₂) × (h₁ ≡ h₂)
-
--- a put has one answer, one state from then on, and leaves one content in the room
-pub record PutDetermined : Type 0 where
+  pub index : (f before : List ℕ) (a b : Answer) (x y : List ℕ) → Writes f before a x → Writes f before b y → (a ≡ b) × (x ≡ y)
   pub put : (o : Outcome) (p q : Put) (held other : List ℕ) → Puts o p held → Puts o q other → (p ≡ q) × (held ≡ other)
 
--- a file has one of the three verdicts: complete, open with the missing bytes, refused with number and place
-pub data Ending (f : List ℕ) : Type 0 where
-  is-complete : endingTold (ending f) ≡ 0 ∷ [] → Ending f
-  is-open : (n : ℕ) → endingTold (ending f) ≡ 1 ∷ n ∷ [] → Ending f
-  is-refused : (n p : ℕ) → endingTold (ending f) ≡ 2 ∷ n ∷ p ∷ [] → Ending f
+pub record DemandOne : Type 0 where
+  pub endings : (f : List ℕ) → Ending f
+  pub questions : (f : List ℕ) (n t : ℕ) → Questions f n t
+  pub writer : (b : Block) (w : Walk) (room : List ℕ) → WriterRefuses b w room
+  pub unchanged : Unchanged
+  pub determined : Determined

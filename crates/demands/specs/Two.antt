@@ -85,3 +85,11 @@ pub record Writing : Type 0 where
 pub record IndexRight : Type 0 where
   pub only : (f x : List ℕ) → rightFor f x ≡ true → (told f ≡ 0 ∷ []) × (indexOf f ≡ x)
   pub when : (f x : List ℕ) → told f ≡ 0 ∷ [] → indexOf f ≡ x → rightFor f x ≡ true
+
+pub record DemandTwo : Type 0 where
+  pub exactly : RefusedExactly
+  pub radials : WholeRadials
+  pub codes : Codes
+  pub trips : Trips
+  pub writing : Writing
+  pub index : IndexRight

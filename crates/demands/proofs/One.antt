@@ -1,0 +1,224 @@
+-- Demand 1: the refusals by computing the definitions on the case at hand, the rest by citing. Assumes nothing.
+use mathlib.Core.Bool.{Bool, true, false, cond}
+use mathlib.Core.List.{List, [], _∷_}
+use mathlib.Core.Path.{_≡_, refl, sym, ap, _∙_}
+use Prim.Native.Nat.{ℕ, _+_, _≤_, _<_}
+use native.Mathlib.Omega.{arith}
+use borrow.Author.Tests.{le-ltb, lt-leb, leb-true, leb-false}
+use lib.Dec.{leb, ltb}
+use lib.IntN.{ℤ}
+use lib.ListN.{length}
+use Rattle.le.specs.Le.{stored}
+use Rattle.le.proofs.Laws.{stored-no}
+use Rattle.gates.specs.declared.RowAnswer.the-variants as row
+use Rattle.gates.specs.Codes.{codesOf}
+use Rattle.gates.specs.Rows.{toldRow, rooms, Rowed}
+use Rattle.gates.proofs.Rows.{row-one}
+use Rattle.gates.proofs.Tellings.{told-gate-one}
+use Rattle.moment.specs.Moment.{momentAt}
+use Rattle.moments.specs.Moments.{dataAt}
+use Rattle.walk.specs.declared.due.Walk.{Walk}
+use Rattle.walk.specs.Due.{atStart, isEnd}
+use Rattle.reading.specs.declared.Found.the-variants.{Nowhere}
+use Rattle.reading.specs.declared.Reading.{Reading}
+use Rattle.reading.specs.declared.Stretch.{Stretch}
+use Rattle.reading.specs.declared.Verdict.{Verdict}
+use Rattle.reading.specs.declared.Verdict.the-variants as verdict
+use Rattle.reading.specs.declared.step.Step.{Step}
+use Rattle.reading.specs.declared.step.Step.the-variants as step
+use Rattle.reading.specs.Growth.{told, bytesOf}
+use Rattle.reading.specs.Reading.{Tells, verdictTold, ending, endingTold, fuel, stretches, nth}
+use Rattle.reading.proofs.Run.{stays, last-off, enough}
+use Rattle.ask.specs.declared.answers.GateAnswer.the-variants as gate
+use Rattle.ask.specs.declared.places.Where.{Where}
+use Rattle.ask.specs.declared.places.Where.the-variants.{At, NoRadial, NoMoment}
+use Rattle.ask.specs.declared.tallies.Tally.{Tally}
+use Rattle.ask.specs.declared.tallies.TallyAnswer.the-variants as tally
+use Rattle.ask.specs.Answers.{radialTold, radialOfFile, momentTold, dataTold, gateIn, gateTold, Unfilled, RowTold}
+use Rattle.ask.specs.Growth.{gateAsked}
+use Rattle.ask.specs.Places.{inFound, whereIs}
+use Rattle.lent.specs.Lending.{lentOf}
+use Rattle.index.specs.declared.Answer.{Answer}
+use Rattle.index.specs.declared.Answer.the-variants as index
+use Rattle.index.specs.Answer.{complete, toldIndex, answerOf, roomOf, Writes}
+use Rattle.index.specs.Index.{indexOf}
+use Rattle.index.proofs.Same.{told-once}
+use Rattle.writer.specs.declared.order.Answer as writer
+use Rattle.writer.specs.declared.order.Answer.the-variants.{Taken, Refused}
+use Rattle.writer.specs.Agree.{sameKind, agrees}
+use Rattle.writer.specs.Block.{Block, kindOf, saysOf, fitsOf, lengthOf, bytesOf as blockBytes}
+use Rattle.writer.specs.Put.{lastTests, checked, answerTo, outcome, Outcome, put, putOn}
+use Rattle.writer.proofs.Same.{tests-agreement}
+use Rattle.writer.proofs.Told.{puts-same}
+use Rattle.demands.specs.One.{Ending, is-complete, is-open, is-refused, Questions, WriterRefuses, Unchanged, Determined, DemandOne}
+
+-- ---- every file has an ending
+
+ends : (f : List ℕ) → Ending f
+unfolding stays endingTold
+ends f = go (ending f) refl (last-off (fuel f) f atStart (enough f atStart))
+  where
+    go : (s : Step) → ending f ≡ s → stays (ending f) → Ending f
+    go (step.Took m) e h = absurd (rw e at h)
+    go step.Complete e h = is-complete (ap endingTold e)
+    go (step.Open n) e h = is-open n (ap endingTold e)
+    go (step.Refused n p) e h = is-refused n p (ap endingTold e)
+
+-- ---- what is refused, with which number and place
+
+past-the-gates : (f : List ℕ) (s : Stretch) (p i : ℕ) → length (codesOf (momentAt (bytesOf f s) p .«bin_length») (dataAt (bytesOf f s) p)) ≤ i
+    → gateTold f (At s p) i ≡ gate.Refused 32
+unfolding gateTold gateIn
+past-the-gates f s p i h = rw (le-ltb i (length (codesOf (momentAt (bytesOf f s) p .«bin_length») (dataAt (bytesOf f s) p))) h)
+
+questions : (f : List ℕ) (n t : ℕ) → Questions f n t
+unfolding radialTold inFound momentTold dataTold gateTold
+questions f n t =
+    record {
+      radial = λ e. rw e (refl, refl);
+      no-radial = λ e. rw e;
+      moment-30 = λ e. rw e (refl, refl);
+      moment-31 = λ e. rw e (refl, refl);
+      gate-30 = λ i e. rw e;
+      gate-31 = λ i e. rw e;
+      gate-32 = λ i s p e h. ap (λ (a : Where). gateTold f a i) e ∙ past-the-gates f s p i h;
+    }
+
+put-yes : (b : Block) (w : Walk) (room : List ℕ) → agrees w room ≡ true → put b w room ≡ putOn b w room
+unfolding put
+put-yes b w room a = rw a
+
+put-no : (b : Block) (w : Walk) (room : List ℕ) → agrees w room ≡ false → put b w room ≡ record { answer = Refused 37 0; walk = w; room = room }
+unfolding put
+put-no b w room a = rw a
+
+answered : (a : writer.Answer) (says : Step) (bs : List ℕ) (w : Walk) (room : List ℕ) → outcome a says bs w room .answer ≡ a
+unfolding outcome
+answered Taken says bs w room = refl
+answered (Refused n p) says bs w room = refl
+
+-- where state and room agree, the order that is left
+answer-is : (b : Block) (w : Walk) (room : List ℕ) → agrees w room ≡ true
+    → put b w room .answer ≡ cond (isEnd (w .due)) (Refused 25 (w .at)) (cond (sameKind (w .due) (kindOf b)) (checked (saysOf b room w) (lastTests (fitsOf b w) (w .at) (lengthOf b) (length room))) (Refused 34 (w .at)))
+unfolding putOn answerTo
+answer-is b w room a =
+    ap (λ (o : Outcome). o .answer) (put-yes b w room a)
+    ∙ answered (answerTo (kindOf b) (saysOf b room w) (fitsOf b w) (lengthOf b) w (length room)) (saysOf b room w) (blockBytes b) w room
+    ∙ rw (le-ltb (length room) (w .at) (tests-agreement w room .yes a .within))
+
+writer-refuses : (b : Block) (w : Walk) (room : List ℕ) → WriterRefuses b w room
+unfolding checked lastTests
+writer-refuses b w room =
+    record {
+      agreement = tests-agreement w room;
+      astray = λ a. ap (λ (o : Outcome). o .answer) (put-no b w room a);
+      ended = λ a e. answer-is b w room a ∙ rw e;
+      kind = λ a e k. answer-is b w room a ∙ rw (e, k);
+      rule = λ a e k n p s. answer-is b w room a ∙ rw (e, k, s);
+      another-length = λ a e k m s h. answer-is b w room a ∙ rw (e, k, s, h);
+      short-room = λ a e k m s h l. answer-is b w room a ∙ rw (e, k, s, h, lt-leb (w .at + lengthOf b) (length room) l);
+    }
+
+-- ---- what was lent is what it was
+
+kept : (a : writer.Answer) (says : Step) (bs : List ℕ) (w : Walk) (room : List ℕ) (n p : ℕ) → outcome a says bs w room .answer ≡ Refused n p
+    → (outcome a says bs w room .walk ≡ w) × (outcome a says bs w room .room ≡ room)
+unfolding outcome
+kept Taken says bs w room n p e = absurd (let z : _≡_ {A = ℕ} 0 1 = cc in omega arith)
+kept (Refused m q) says bs w room n p e = (refl, refl)
+
+put-on-kept : (b : Block) (w : Walk) (room : List ℕ) (n p : ℕ) → putOn b w room .answer ≡ Refused n p → (putOn b w room .walk ≡ w) × (putOn b w room .room ≡ room)
+unfolding putOn
+put-on-kept b w room n p e =
+    kept (answerTo (kindOf b) (saysOf b room w) (fitsOf b w) (lengthOf b) w (length room)) (saysOf b room w) (blockBytes b) w room n p e
+
+put-kept : (b : Block) (w : Walk) (room : List ℕ) (n p : ℕ) → put b w room .answer ≡ Refused n p → (put b w room .walk ≡ w) × (put b w room .room ≡ room)
+put-kept b w room n p e = go (agrees w room) refl
+  where
+    go : (t : Bool) → agrees w room ≡ t → (put b w room .walk ≡ w) × (put b w room .room ≡ room)
+    go true a = rw (put-yes b w room a) (put-on-kept b w room n p (rw (put-yes b w room a) at e))
+    go false a = rw (put-no b w room a) (refl, refl)
+
+row-kept : (f : List ℕ) (at : Where) (k k′ : List ℕ) (h h′ : List ℤ) (n : ℕ) → RowTold f at k h (row.Refused n) k′ h′ → (k′ ≡ k) × (h′ ≡ h)
+unfolding RowTold
+row-kept f NoRadial k k′ h h′ n r = (r .kinds, r .hundredths)
+row-kept f NoMoment k k′ h h′ n r = (r .kinds, r .hundredths)
+row-kept f (At s p) k k′ h h′ n r =
+    let codes = codesOf (momentAt (bytesOf f s) p .«bin_length») (dataAt (bytesOf f s) p) in
+    go (rooms codes k h) refl
+  where
+    go : (t : Bool) → rooms (codesOf (momentAt (bytesOf f s) p .«bin_length») (dataAt (bytesOf f s) p)) k h ≡ t → (k′ ≡ k) × (h′ ≡ h)
+    go true e = absurd (let z : _≡_ {A = ℕ} 0 1 = ap (λ (x : ℕ × List ℕ). length (x .1)) (rw e at (r .answer)) in omega arith)
+    go false e = (rw e at (r .kinds), rw e at (r .hundredths))
+
+too-long : (x room : List ℕ) → leb (length x) (length room) ≡ false → stored (length x) room 0 x ≡ room
+too-long x room e =
+    let l = leb-false (length x) (length room) e in
+    stored-no (length x) room 0 x (lt-leb (0 + length x) (length room) (omega arith))
+
+index-kept : (f before after : List ℕ) (n : ℕ) → Writes f before (index.Refused n) after → after ≡ before
+unfolding toldIndex answerOf roomOf
+index-kept f before after n r = go (complete f) (leb (length (indexOf f)) (length before)) refl refl
+  where
+    go : (c t : Bool) → complete f ≡ c → leb (length (indexOf f)) (length before) ≡ t → after ≡ before
+    go true true p q = absurd (let z : _≡_ {A = ℕ} 2 1 = ap (λ (x : List ℕ). length x) (rw (p, q) at (r .answer)) in omega arith)
+    go true false p q = rw p at (r .room) ∙ too-long (indexOf f) before q
+    go false t p q = rw p at (r .room)
+
+tally-kept : (old : Tally) (n : ℕ) → lentOf old (tally.Refused n) .tally ≡ old
+unfolding lentOf
+tally-kept old n = refl
+
+unchanged : Unchanged
+unchanged =
+    record {
+      put = put-kept;
+      put-on = put-on-kept;
+      row = row-kept;
+      tally = tally-kept;
+      index = index-kept;
+      block = λ n room at bs h. stored-no n room at bs (lt-leb (at + n) (length room) h);
+    }
+
+-- ---- no promise leaves a choice
+
+verdict-one : (a b : Verdict) → verdictTold a ≡ verdictTold b → a ≡ b
+unfolding verdictTold
+verdict-one verdict.Complete verdict.Complete e = refl
+verdict-one verdict.Complete (verdict.Open m) e = cc
+verdict-one verdict.Complete (verdict.Refused n p) e = cc
+verdict-one (verdict.Open m) verdict.Complete e = cc
+verdict-one (verdict.Open m) (verdict.Open k) e = cc
+verdict-one (verdict.Open m) (verdict.Refused n p) e = cc
+verdict-one (verdict.Refused n p) verdict.Complete e = cc
+verdict-one (verdict.Refused n p) (verdict.Open m) e = cc
+verdict-one (verdict.Refused n p) (verdict.Refused m q) e = cc
+
+reading-one : (f : List ℕ) (a b : Reading) → Tells f a → Tells f b → a ≡ b
+reading-one f a b x y =
+    λ i. record {
+      verdict = verdict-one (a .verdict) (b .verdict) (x .verdict ∙ sym (y .verdict)) i;
+      read = (x .read ∙ sym (y .read)) i;
+      radials = (x .radials ∙ sym (y .radials)) i;
+    }
+
+determined : Determined
+determined =
+    record {
+      verdict = verdict-one;
+      reading = reading-one;
+      gate = told-gate-one;
+      row = λ c codes k h a b k₁ k₂ h₁ h₂ x y. row-one x y;
+      index = λ f before a b x y p q. (told-once a b (p .answer ∙ sym (q .answer)), p .room ∙ sym (q .room));
+      put = puts-same;
+    }
+
+pub demand-one : DemandOne
+demand-one =
+    record {
+      endings = ends;
+      questions = questions;
+      writer = writer-refuses;
+      unchanged = unchanged;
+      determined = determined;
+    }
