@@ -1,10 +1,8 @@
 // The tally of a cut and a type: how many whole radials carry the type, and the kinds of their gates.
 ghost use mathlib.Core.Path.{_≡_};
 ghost use Prim.Native.Nat.{_+_, _<_, _^_};
-ghost use mathlib.Core.Bool.{cond};
-ghost use lib.Dec.{eqb};
 ghost use Rattle.gates.specs.Counting.{totalOf};
-ghost use Rattle.ask.specs.Tallies.{noTally, added, tallyOne, tallyOf, cutAccepted, tallyTold, tallyAnswer};
+ghost use Rattle.ask.specs.Tallies.{noTally, added, tallyOne, cutAccepted, tallyTold, tallyAnswer};
 use crate::answers;
 use crate::places;
 use crate::places::Where;

@@ -1,42 +1,40 @@
 -- Demand 1: the refusals by computing the definitions on the case at hand, the rest by citing. Assumes nothing.
 use mathlib.Core.Bool.{Bool, true, false, cond}
-use mathlib.Core.List.{List, [], _∷_}
+use mathlib.Core.List.{List}
 use mathlib.Core.Path.{_≡_, refl, sym, ap, _∙_}
-use Prim.Native.Nat.{ℕ, _+_, _≤_, _<_}
+use Prim.Native.Nat.{ℕ, _+_, _≤_}
 use native.Mathlib.Omega.{arith}
-use borrow.Author.Tests.{le-ltb, lt-leb, leb-true, leb-false}
-use lib.Dec.{leb, ltb}
+use borrow.Author.Tests.{le-ltb, lt-leb, leb-false}
+use lib.Dec.{leb}
 use lib.IntN.{ℤ}
 use lib.ListN.{length}
 use Rattle.le.specs.Le.{stored}
 use Rattle.le.proofs.Laws.{stored-no}
 use Rattle.gates.specs.declared.RowAnswer.the-variants as row
 use Rattle.gates.specs.Codes.{codesOf}
-use Rattle.gates.specs.Rows.{toldRow, rooms, Rowed}
+use Rattle.gates.specs.Rows.{rooms}
 use Rattle.gates.proofs.Rows.{row-one}
 use Rattle.gates.proofs.Tellings.{told-gate-one}
 use Rattle.moment.specs.Moment.{momentAt}
 use Rattle.moments.specs.Moments.{dataAt}
 use Rattle.walk.specs.declared.due.Walk.{Walk}
 use Rattle.walk.specs.Due.{atStart, isEnd}
-use Rattle.reading.specs.declared.Found.the-variants.{Nowhere}
 use Rattle.reading.specs.declared.Reading.{Reading}
 use Rattle.reading.specs.declared.Stretch.{Stretch}
 use Rattle.reading.specs.declared.Verdict.{Verdict}
 use Rattle.reading.specs.declared.Verdict.the-variants as verdict
 use Rattle.reading.specs.declared.step.Step.{Step}
 use Rattle.reading.specs.declared.step.Step.the-variants as step
-use Rattle.reading.specs.Growth.{told, bytesOf}
-use Rattle.reading.specs.Reading.{Tells, verdictTold, ending, endingTold, fuel, stretches, nth}
+use Rattle.reading.specs.Growth.{bytesOf}
+use Rattle.reading.specs.Reading.{Tells, verdictTold, ending, endingTold, fuel}
 use Rattle.reading.proofs.Run.{stays, last-off, enough}
 use Rattle.ask.specs.declared.answers.GateAnswer.the-variants as gate
 use Rattle.ask.specs.declared.places.Where.{Where}
 use Rattle.ask.specs.declared.places.Where.the-variants.{At, NoRadial, NoMoment}
 use Rattle.ask.specs.declared.tallies.Tally.{Tally}
 use Rattle.ask.specs.declared.tallies.TallyAnswer.the-variants as tally
-use Rattle.ask.specs.Answers.{radialTold, radialOfFile, momentTold, dataTold, gateIn, gateTold, Unfilled, RowTold}
-use Rattle.ask.specs.Growth.{gateAsked}
-use Rattle.ask.specs.Places.{inFound, whereIs}
+use Rattle.ask.specs.Answers.{radialTold, momentTold, dataTold, gateIn, gateTold, RowTold}
+use Rattle.ask.specs.Places.{inFound}
 use Rattle.lent.specs.Lending.{lentOf}
 use Rattle.index.specs.declared.Answer.{Answer}
 use Rattle.index.specs.declared.Answer.the-variants as index

@@ -3,7 +3,6 @@ ghost use mathlib.Core.Path.{_≡_};
 ghost use Prim.Native.Nat.{_-_, _+_};
 ghost use Rattle.walk.specs.Due.{dueIf};
 ghost use Rattle.walk.specs.After.{afterGeneric, afterSite, afterTask, afterCut, afterRadial, afterMoment, afterData, closesCut};
-use crate::due::Count;
 use crate::due::Due;
 use crate::due::Plan;
 use crate::due::Present;
@@ -13,7 +12,6 @@ use moment::Moment;
 use radial::Radial;
 use rules::moments;
 use rules::states;
-use task::Task;
 
 // a less b, and 0 where b is more.
 fn less(a: usize, b: usize) -> usize
