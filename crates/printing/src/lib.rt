@@ -1,4 +1,6 @@
 // What the programs share: words, numbers and listings on standard output, and the start of a slice.
+ghost use mathlib.Core.Path.{_≡_};
+ghost use lib.ListN.{take};
 use libc::STDOUT_FILENO;
 use listing::Cursor;
 use listing::Line;
@@ -7,7 +9,9 @@ use reading::Reading;
 use reading::Verdict;
 
 // The first n bytes, or all where there are fewer.
-pub fn first(s: &[u8], n: usize) -> &[u8] {
+pub fn first(s: &[u8], n: usize) -> &[u8]
+    ensures { λ r. ⌜ now r ≡ take n (now (s .entry)) ⌝ }
+{
     if n <= s.len() {
         return &s[0..n];
     }
