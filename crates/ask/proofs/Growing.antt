@@ -19,8 +19,8 @@ use Rattle.reading.specs.declared.step.Step.the-variants.{Took}
 use Rattle.walk.specs.Due.{atStart, dueIf, cutPlace}
 use Rattle.walk.specs.After.{afterData}
 use Rattle.reading.specs.Step.{takeGeneric, takeSite, takeTask, takeCut, takeRadial, takeMoment, takeData, blockAt}
-use Rattle.reading.specs.Reading.{walkOn, last, fuel, stop, trace, stretches, advanceOf, nth}
-use Rattle.reading.specs.Growth.{bytesOf, Same}
+use Rattle.reading.specs.Reading.{walkOn, last, fuel, stop, trace, stretches, advanceOf, nth, bytesOf}
+use Rattle.reading.specs.Growth.{Same}
 use Rattle.reading.proofs.Growing.{through}
 use Rattle.reading.proofs.Loops.{further, no-more}
 use Rattle.reading.proofs.Radials.{Between, outside, between-next}

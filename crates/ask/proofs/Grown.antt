@@ -15,8 +15,8 @@ use Rattle.moments.specs.Moments.{momentsOf, findIn}
 use Rattle.reading.specs.declared.Found.{Found}
 use Rattle.reading.specs.declared.Found.the-variants as found
 use Rattle.reading.specs.declared.Stretch.{Stretch}
-use Rattle.reading.specs.Growth.{bytesOf, Grows}
-use Rattle.reading.specs.Reading.{stretches, nth}
+use Rattle.reading.specs.Growth.{Grows}
+use Rattle.reading.specs.Reading.{stretches, nth, bytesOf}
 use Rattle.reading.proofs.Grown.{grows}
 use Rattle.ask.specs.declared.answers.GateAnswer.the-variants as gate
 use Rattle.ask.specs.declared.places.Where.{Where}

@@ -29,8 +29,7 @@ use Rattle.moments.specs.Moments.{after, momentsFrom, momentsOf, findIn, dataAt
 use Rattle.reading.specs.declared.Found.{Found}
 use Rattle.reading.specs.declared.Found.the-variants as found
 use Rattle.reading.specs.declared.Stretch.{Stretch}
-use Rattle.reading.specs.Growth.{bytesOf}
-use Rattle.reading.specs.Reading.{stretches, nth}
+use Rattle.reading.specs.Reading.{stretches, nth, bytesOf}
 use Rattle.reading.specs.Tiling.{dueWith, Tiled, none, more, WholeRadial, AllWhole}
 use Rattle.reading.proofs.Radials.{all-whole}
 use Rattle.ask.specs.declared.places.Where.the-variants.{At}

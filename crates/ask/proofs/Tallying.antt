@@ -14,11 +14,10 @@ use Rattle.gates.proofs.Codes.{codes-le}
 use Rattle.gates.proofs.Counting.{counts-all}
 use Rattle.moments.specs.Moments.{momentsOf, findIn, dataAt}
 use Rattle.reading.specs.declared.Stretch.{Stretch}
-use Rattle.reading.specs.Growth.{bytesOf}
 use Rattle.walk.specs.declared.due.Walk.{Walk}
 use Rattle.reading.specs.declared.Onward.the-variants.{Whole, Stopped}
 use Rattle.walk.specs.Due.{atStart}
-use Rattle.reading.specs.Reading.{stop, last, fuel, trace, advanceOf}
+use Rattle.reading.specs.Reading.{stop, last, fuel, trace, advanceOf, bytesOf}
 use Rattle.reading.proofs.Loops.{further, no-more, stopped}
 use Rattle.reading.proofs.Radials.{Between, outside, between-next}
 use Rattle.ask.specs.declared.places.Where.{Where}

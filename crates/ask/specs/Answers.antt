@@ -18,8 +18,7 @@ use Rattle.gates.specs.Rows.{toldRow, Rowed}
 use Rattle.moments.specs.Moments.{dataAt}
 use Rattle.reading.specs.declared.Found.{Found}
 use Rattle.reading.specs.declared.Found.the-variants as found
-use Rattle.reading.specs.Growth.{bytesOf}
-use Rattle.reading.specs.Reading.{stretches, nth}
+use Rattle.reading.specs.Reading.{stretches, nth, bytesOf}
 use Rattle.ask.specs.declared.answers.RadialAnswer.{RadialAnswer}
 use Rattle.ask.specs.declared.answers.MomentAnswer.{MomentAnswer}
 use Rattle.ask.specs.declared.answers.GateAnswer.{GateAnswer}

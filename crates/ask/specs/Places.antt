@@ -4,8 +4,7 @@ use Prim.Native.Nat.{ℕ}
 use Rattle.reading.specs.declared.Stretch.{Stretch}
 use Rattle.reading.specs.declared.Found.{Found}
 use Rattle.reading.specs.declared.Found.the-variants as found
-use Rattle.reading.specs.Growth.{bytesOf}
-use Rattle.reading.specs.Reading.{stretches, nth}
+use Rattle.reading.specs.Reading.{stretches, nth, bytesOf}
 use Rattle.moments.specs.declared.Found as moment
 use Rattle.moments.specs.Moments.{momentsOf, findIn}
 use Rattle.ask.specs.declared.places.Where.{Where}

@@ -12,8 +12,7 @@ use Rattle.moments.specs.Moments.{momentsOf, findIn, dataAt}
 use Rattle.walk.specs.declared.due.Walk.{Walk}
 use Rattle.reading.specs.declared.Stretch.{Stretch}
 use Rattle.walk.specs.Due.{cutPlace}
-use Rattle.reading.specs.Growth.{bytesOf}
-use Rattle.reading.specs.Reading.{stop, stretches}
+use Rattle.reading.specs.Reading.{stop, stretches, bytesOf}
 use Rattle.ask.specs.declared.places.Where.{Where}
 use Rattle.ask.specs.declared.places.Where.the-variants.{At, NoRadial, NoMoment}
 use Rattle.ask.specs.declared.tallies.Tally.{Tally}

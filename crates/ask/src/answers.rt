@@ -54,7 +54,7 @@ pub fn moment(file: &[u8], sequence: usize, t: u32) -> MomentAnswer
     match places::find(file, sequence, t) {
         Where::At(s, p) => MomentAnswer {
             number: 0,
-            header: Moment::read(places::own(file, s), p),
+            header: Moment::read(reading::own(file, s), p),
         },
         Where::NoRadial => MomentAnswer {
             number: 30,
@@ -72,7 +72,7 @@ pub fn moment_data(file: &[u8], sequence: usize, t: u32) -> &[u8]
     ensures { λ r. ⌜ now r ≡ dataTold (now (file .entry)) (whereIs (now (file .entry)) sequence t) ⌝ }
 {
     match places::find(file, sequence, t) {
-        Where::At(s, p) => moments::data(places::own(file, s), p),
+        Where::At(s, p) => moments::data(reading::own(file, s), p),
         Where::NoRadial => &file[..0],
         Where::NoMoment => &file[..0],
     }
@@ -105,7 +105,7 @@ pub fn gate(file: &[u8], sequence: usize, t: u32, i: usize) -> GateAnswer
 {
     match places::find(file, sequence, t) {
         Where::At(s, p) => {
-            let b = places::own(file, s);
+            let b = reading::own(file, s);
             gate_in(Moment::read(b, p), moments::data(b, p), i)
         }
         Where::NoRadial => GateAnswer::Refused(30),
@@ -125,7 +125,7 @@ pub fn row(
 {
     match places::find(file, sequence, t) {
         Where::At(s, p) => {
-            let b = places::own(file, s);
+            let b = reading::own(file, s);
             let h = Moment::read(b, p);
             gates::row(
                 moments::data(b, p),

@@ -1,6 +1,5 @@
 // Where an asked radial and moment stand.
 ghost use mathlib.Core.Path.{_≡_};
-ghost use Rattle.reading.specs.Growth.{bytesOf};
 ghost use Rattle.moments.specs.Moments.{momentsOf, findIn};
 ghost use Rattle.ask.specs.Places.{whereIs, inStretch};
 use reading::Found;
@@ -11,24 +10,6 @@ pub enum Where {
     At(Stretch, usize),
     NoRadial,
     NoMoment,
-}
-
-// A radial's own stretch of the file. A stretch that does not lie in the file gives what the file has of it.
-pub(crate) fn own(file: &[u8], s: Stretch) -> &[u8]
-    ensures { λ r. ⌜ now r ≡ bytesOf (now (file .entry)) s ⌝ }
-{
-    let start = s.start;
-    let end = s.end;
-    if end <= start {
-        return &file[..0];
-    }
-    if file.len() <= start {
-        return &file[..0];
-    }
-    if file.len() < end {
-        return &file[start..];
-    }
-    &file[start..end]
 }
 
 // The moment of a type in a radial's own stretch.
@@ -45,7 +26,7 @@ pub(crate) fn find(file: &[u8], sequence: usize, t: u32) -> Where
     ensures { λ r. ⌜ r ≡ whereIs (now (file .entry)) sequence t ⌝ }
 {
     match reading::find(file, sequence) {
-        Found::There(s) => in_stretch(own(file, s), s, t),
+        Found::There(s) => in_stretch(reading::own(file, s), s, t),
         Found::Nowhere => Where::NoRadial,
     }
 }

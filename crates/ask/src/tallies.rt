@@ -46,7 +46,7 @@ fn one(file: &[u8], cut: u32, t: u32, s: Stretch) -> Tally
     if s.cut != cut {
         return none();
     }
-    let b = places::own(file, s);
+    let b = reading::own(file, s);
     match places::in_stretch(b, s, t) {
         Where::At(_, p) => {
             let h = Moment::read(b, p);

@@ -25,8 +25,7 @@ use Rattle.reading.specs.declared.Verdict.{Verdict}
 use Rattle.reading.specs.declared.Verdict.the-variants as verdict
 use Rattle.reading.specs.declared.step.Step.{Step}
 use Rattle.reading.specs.declared.step.Step.the-variants as step
-use Rattle.reading.specs.Growth.{bytesOf}
-use Rattle.reading.specs.Reading.{Tells, verdictTold, ending, endingTold, fuel}
+use Rattle.reading.specs.Reading.{Tells, verdictTold, ending, endingTold, fuel, bytesOf}
 use Rattle.reading.proofs.Run.{stays, last-off, enough}
 use Rattle.ask.specs.declared.answers.GateAnswer.the-variants as gate
 use Rattle.ask.specs.declared.places.Where.{Where}

@@ -25,8 +25,7 @@ use Rattle.reading.specs.declared.Reading.{Reading}
 use Rattle.reading.specs.declared.Stretch.{Stretch}
 use Rattle.reading.specs.declared.Verdict.{Verdict}
 use Rattle.reading.specs.declared.step.Step.the-variants as step
-use Rattle.reading.specs.Growth.{told, bytesOf}
-use Rattle.reading.specs.Reading.{Tells, verdictTold, stretches, nth}
+use Rattle.reading.specs.Reading.{Tells, verdictTold, stretches, nth, told, bytesOf}
 use Rattle.ask.specs.declared.answers.GateAnswer.the-variants as gate
 use Rattle.ask.specs.declared.places.Where.{Where}
 use Rattle.ask.specs.declared.places.Where.the-variants.{At, NoRadial, NoMoment}

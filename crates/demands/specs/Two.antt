@@ -25,10 +25,9 @@ use Rattle.gates.specs.declared.Coding.{Coding}
 use Rattle.gates.specs.declared.Gate.the-variants.{Value}
 use Rattle.gates.specs.Gates.{kindOf, toldOf, differenceOf, floatOf, hundredthsOf}
 use Rattle.gates.proofs.Nearest.{Nearest}
-use Rattle.reading.specs.Growth.{bytesOf, told}
 use Rattle.reading.specs.declared.Stretch.{Stretch}
 use Rattle.walk.specs.declared.due.Walk.{Walk}
-use Rattle.reading.specs.Reading.{stop, stretches}
+use Rattle.reading.specs.Reading.{stop, stretches, bytesOf, told}
 use Rattle.reading.specs.Tiling.{AllWhole}
 use Rattle.ask.specs.declared.places.Where.the-variants.{At}
 use Rattle.ask.specs.Places.{whereIs}

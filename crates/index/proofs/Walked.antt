@@ -22,8 +22,7 @@ use Rattle.reading.specs.declared.Stretch.{Stretch}
 use Rattle.reading.specs.declared.step.Step.the-variants.{Took}
 use Rattle.walk.specs.After.{afterData, closesCut}
 use Rattle.walk.specs.Due.{sizeAt, isEnd, endsRadial, atStart}
-use Rattle.reading.specs.Growth.{told}
-use Rattle.reading.specs.Reading.{fuel, stop, ending, stretchIf, stretchOf, trace, stretches, advanceOf}
+use Rattle.reading.specs.Reading.{fuel, stop, ending, stretchIf, stretchOf, trace, stretches, advanceOf, told}
 use Rattle.reading.specs.Step.{takeGeneric, takeSite, takeTask, takeCut, takeRadial, takeMoment, takeData, blockAt}
 use Rattle.reading.proofs.Grown.{step-done}
 use Rattle.reading.proofs.Loops.{further, no-more}

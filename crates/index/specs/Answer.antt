@@ -6,7 +6,7 @@ use mathlib.Core.Path.{_≡_}
 use lib.Dec.{eqb, leb}
 use lib.ListN.{length}
 use Rattle.le.specs.Le.{stored}
-use Rattle.reading.specs.Growth.{told}
+use Rattle.reading.specs.Reading.{told}
 use Rattle.index.specs.declared.Answer.{Answer}
 use Rattle.index.specs.declared.Answer.the-variants.{Written, Refused}
 use Rattle.index.specs.Index.{indexOf}

@@ -12,8 +12,7 @@ use Rattle.moments.proofs.Laws.{there, end}
 use Rattle.reading.specs.declared.Onward.{Onward}
 use Rattle.reading.specs.declared.Onward.the-variants.{Whole, Stopped}
 use Rattle.reading.specs.declared.Stretch.{Stretch}
-use Rattle.reading.specs.Growth.{bytesOf}
-use Rattle.reading.specs.Reading.{trace, fuel, advanceOf}
+use Rattle.reading.specs.Reading.{trace, fuel, advanceOf, bytesOf}
 use Rattle.reading.proofs.Loops.{further, no-more}
 use Rattle.listing.specs.declared.Cursor.{Cursor}
 use Rattle.listing.specs.declared.Line.{Line}

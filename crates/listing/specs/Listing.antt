@@ -11,8 +11,7 @@ use Rattle.reading.specs.declared.Onward.{Onward}
 use Rattle.reading.specs.declared.Onward.the-variants.{Whole, Stopped}
 use Rattle.reading.specs.declared.Stretch.{Stretch}
 use Rattle.walk.specs.Due.{atStart}
-use Rattle.reading.specs.Growth.{bytesOf}
-use Rattle.reading.specs.Reading.{stretches, advanceOf}
+use Rattle.reading.specs.Reading.{stretches, advanceOf, bytesOf}
 use Rattle.listing.specs.declared.Cursor.{Cursor}
 use Rattle.listing.specs.declared.Line.{Line}
 use Rattle.listing.specs.declared.Line.the-variants as line

@@ -2,7 +2,6 @@
 // the listing program): every whole radial, each with its moments behind it.
 ghost use mathlib.Core.Path.{_≡_};
 ghost use Prim.Native.Nat.{_+_, _<_, _^_};
-ghost use Rattle.reading.specs.Growth.{bytesOf};
 ghost use Rattle.listing.specs.Listing.{radialLine, gatesIn, momentLine, atBegin, radialNext, lineOf};
 use moment::Moment;
 use moments::Ahead;
@@ -59,25 +58,6 @@ impl Cursor {
     }
 }
 
-// The radial's own part of the file, or what the file has of it.
-fn bytes_of(file: &[u8], s: Stretch) -> &[u8]
-    ensures { λ r. ⌜ now r ≡ bytesOf (now (file .entry)) s ⌝ }
-{
-    let len = file.len();
-    let start = s.start;
-    let end = s.end;
-    if end < start {
-        return &file[len..];
-    }
-    if end <= len {
-        return &file[start..end];
-    }
-    if start <= len {
-        return &file[start..];
-    }
-    &file[len..]
-}
-
 fn radial_line(b: &[u8], s: Stretch) -> Line
     ensures { λ r. ⌜ r ≡ radialLine (now (b .entry)) s ⌝ }
 {
@@ -114,7 +94,7 @@ fn next_radial(file: &[u8], from: Walk) -> Next
 {
     match reading::advance(file, from) {
         Onward::Whole(stretch, walk) => {
-            let b = bytes_of(file, stretch);
+            let b = reading::own(file, stretch);
             let line = radial_line(b, stretch);
             let place = moments::first(b);
             Next::There(
@@ -137,7 +117,7 @@ pub fn next_line(file: &[u8], c: Cursor) -> Next
     let walk = c.walk;
     let stretch = c.stretch;
     let place = c.place;
-    let b = bytes_of(file, stretch);
+    let b = reading::own(file, stretch);
     match moments::next(b, place) {
         Ahead::There(at, place) => {
             let line = moment_line(b, stretch.start, at);

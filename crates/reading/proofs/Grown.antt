@@ -18,8 +18,8 @@ use Rattle.reading.specs.declared.step.Step.{Step}
 use Rattle.reading.specs.declared.step.Step.the-variants.{Took, Open, Refused, Complete}
 use Rattle.walk.specs.Due.{sizeOf, endsRadial, atStart}
 use Rattle.reading.specs.Step.{settle, takeGeneric, takeSite, takeTask, takeCut, takeRadial, takeMoment, takeData, blockAt, stepOf}
-use Rattle.reading.specs.Reading.{last, fuel, stop, ending, endingTold, stretch, stretchIf, stretchOf, trace}
-use Rattle.reading.specs.Growth.{told, bytesOf, Same, Further, read, refused, Grows}
+use Rattle.reading.specs.Reading.{last, fuel, stop, ending, endingTold, stretch, stretchIf, stretchOf, trace, told, bytesOf}
+use Rattle.reading.specs.Growth.{Same, Further, read, refused, Grows}
 use Rattle.reading.proofs.Run.{View, here, short, over, done, view, is-here, is-short, is-over, is-done, Plain, took, taken, stays, run-holds, run-step, last-within, enough}
 use Rattle.reading.proofs.Run as run
 use Rattle.reading.proofs.Growing.{keeps-refused, grows-complete, grows-open, through, kept, rests}

@@ -1,19 +1,12 @@
 -- Growth (demand 3, on radials and verdicts): what is told of a file A and of any longer file that begins with A.
--- The longer file is A ++ C, where C has a byte at least. What reading tells is `endingTold (ending f)`: 0 is complete, 1
--- open with the missing bytes, 2 refused with number and place.
+-- The longer file is A ++ C, where C has a byte at least. What reading tells is `told f`: 0 is complete, 1 open with
+-- the missing bytes, 2 refused with number and place.
 use Prim.Native.Nat.{ℕ, _-_, _≤_, _<_}
 use mathlib.Core.List.{List, [], _∷_, _++_}
 use mathlib.Core.Path.{_≡_}
-use lib.ListN.{length, take, drop}
+use lib.ListN.{length}
 use Rattle.reading.specs.declared.Stretch.{Stretch}
-use Rattle.reading.specs.Reading.{stop, ending, endingTold, stretches}
-
-abbrev pub told : List ℕ → List ℕ
-told f = endingTold (ending f)
-
--- the bytes of a stretch
-abbrev pub bytesOf : List ℕ → Stretch → List ℕ
-bytesOf f s = take (s .end - s .start) (drop (s .start) f)
+use Rattle.reading.specs.Reading.{stop, told, stretches, bytesOf}
 
 -- every element of a list of stretches lies in A, whose bytes the longer file repeats
 abbrev pub Same : List ℕ → List ℕ → List Stretch → Type 0

@@ -1,10 +1,10 @@
 -- A reading: steps from the start while blocks are taken. Everything told of a file is told of this (document 01, "What
 -- reading tells").
-use Prim.Native.Nat.{ℕ, zero, suc, _+_}
+use Prim.Native.Nat.{ℕ, zero, suc, _+_, _-_}
 use mathlib.Core.Bool.{Bool, true, false}
 use mathlib.Core.List.{List, [], _∷_}
 use mathlib.Core.Path.{_≡_}
-use lib.ListN.{length}
+use lib.ListN.{length, take, drop}
 use Rattle.walk.specs.declared.due.Walk.{Walk}
 use Rattle.reading.specs.declared.step.Step.{Step}
 use Rattle.reading.specs.declared.step.Step.the-variants.{Took, Open, Refused, Complete}
@@ -64,6 +64,10 @@ trace k f w = walkOn (λ v. []) stretchOf k f w
 abbrev pub stretches : List ℕ → List Stretch
 stretches f = trace (fuel f) f atStart
 
+-- the bytes of a stretch: a radial's own part of the file
+abbrev pub bytesOf : List ℕ → Stretch → List ℕ
+bytesOf f s = take (s .end - s .start) (drop (s .start) f)
+
 -- a verdict in document 01's words: 0 is complete, 1 open with the missing bytes, 2 refused with number and place
 unfoldable pub verdictTold : Verdict → List ℕ
 verdictTold verdict.Complete = 0 ∷ []
@@ -77,9 +81,12 @@ endingTold Complete = 0 ∷ []
 endingTold (Open m) = 1 ∷ m ∷ []
 endingTold (Refused n p) = 2 ∷ n ∷ p ∷ []
 
+abbrev pub told : List ℕ → List ℕ
+told f = endingTold (ending f)
+
 -- reading tells the verdict, the end of the last accepted block, and the whole radials
 pub record Tells (f : List ℕ) (r : Reading) : Type 0 where
-  pub verdict : verdictTold (r .verdict) ≡ endingTold (ending f)
+  pub verdict : verdictTold (r .verdict) ≡ told f
   pub read : r .read ≡ stop f .at
   pub radials : r .radials ≡ length (stretches f)
 

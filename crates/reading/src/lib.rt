@@ -2,7 +2,7 @@
 ghost use mathlib.Core.Path.{_≡_};
 ghost use Prim.Native.Nat.{_≤_};
 ghost use lib.ListN.{length};
-ghost use Rattle.reading.specs.Reading.{Tells, advanceOf, stretches, nth};
+ghost use Rattle.reading.specs.Reading.{Tells, advanceOf, stretches, nth, bytesOf};
 
 mod step;
 
@@ -145,4 +145,22 @@ pub fn find(file: &[u8], sequence: usize) -> Found
             }
         }
     }
+}
+
+// A radial's own stretch of the file. A stretch that does not lie in the file gives what the file has of it.
+pub fn own(file: &[u8], s: Stretch) -> &[u8]
+    ensures { λ r. ⌜ now r ≡ bytesOf (now (file .entry)) s ⌝ }
+{
+    let start = s.start;
+    let end = s.end;
+    if end <= start {
+        return &file[..0];
+    }
+    if file.len() <= start {
+        return &file[..0];
+    }
+    if file.len() < end {
+        return &file[start..];
+    }
+    &file[start..end]
 }

@@ -16,8 +16,7 @@ use Rattle.walk.specs.declared.due.Due.the-variants as due
 use Rattle.walk.specs.declared.due.Walk.{Walk}
 use Rattle.reading.specs.declared.step.Step.the-variants as step
 use Rattle.walk.specs.Due.{sizeOf, atStart}
-use Rattle.reading.specs.Growth.{told}
-use Rattle.reading.specs.Reading.{stop}
+use Rattle.reading.specs.Reading.{stop, told}
 use Rattle.reading.specs.Step.{stepOf}
 use Rattle.writer.specs.declared.order.Answer.the-variants.{Taken}
 use Rattle.writer.specs.Agree.{written, Agrees}

@@ -3,8 +3,7 @@ use Prim.Native.Nat.{ℕ}
 use mathlib.Core.List.{[], _∷_}
 use mathlib.Core.Path.{_≡_, sym, ap, ap₂, _∙_}
 use borrow.Author.Needs.{needs}
-use Rattle.reading.specs.Growth.{told}
-use Rattle.reading.specs.Reading.{verdictTold}
+use Rattle.reading.specs.Reading.{verdictTold, told}
 use Rattle.index.specs.Answer.{same, complete}
 use Rattle.index.specs.Making.{layoutFor, layoutOf}
 use Rattle.index.proofs.Walked.{cuts-read}

@@ -5,7 +5,7 @@ use native.Mathlib.Omega.{arith}
 use borrow.Author.Needs.{needs}
 use Rattle.moments.specs.Moments.{aheadOf}
 use Rattle.moments.proofs.Laws.{there}
-use Rattle.reading.specs.Growth.{bytesOf}
+use Rattle.reading.specs.Reading.{bytesOf}
 use Rattle.listing.specs.Listing.{momentOr}
 use Rattle.listing.proofs.Laws.{in-file}
 use Rattle.listing.proofs.next_line.Statement.{statement}
@@ -13,7 +13,7 @@ use Rattle.listing.proofs.next_line.Tie as tie
 
 -- what the call found, in the radial's bytes
 found : (c : tie.After-next) → c .next .result ≡ aheadOf (bytesOf (c .before .before .before .before .before .before .args .file .now) (c .before .before .before .before .before .before .args .c .stretch)) (c .before .before .before .before .before .before .args .c .place)
-found c = rw (← c .before .bytes-of .ensures) (c .next .ensures)
+found c = rw (← c .before .own .ensures) (c .next .ensures)
 
 moment-line-requires : tie.Need-moment-line-requires
 moment-line-requires c κs =
@@ -28,7 +28,7 @@ unfolding momentOr
 returns c =
     let n = c .before .before .before .before in
     let a = n .before .before .before .before .before .before .args in
-    rw (c .moment-line .ensures, n .before .bytes-of .ensures)
+    rw (c .moment-line .ensures, n .before .own .ensures)
     (ap (momentOr (a .file .now) (a .c)) (sym (c .before .before .at .given .1) ∙ found n))
 
 returns-2 : tie.Need-returns-2

@@ -9,7 +9,7 @@ unfolding radialOr
 returns c =
     let w = c .before .before .before .before in
     let f = w .before .before .before .before .args .file .now in
-    rw (c .first .ensures, c .before .radial-line .ensures, c .before .before .bytes-of .ensures)
+    rw (c .first .ensures, c .before .radial-line .ensures, c .before .before .own .ensures)
     (ap (radialOr f) (sym (w .stretch .given .1) ∙ w .before .before .advance .ensures))
 
 returns-2 : tie.Need-returns-2

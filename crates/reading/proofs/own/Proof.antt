@@ -4,8 +4,8 @@ use native.Mathlib.Omega.{arith}
 use borrow.Author.Needs.{needs}
 use lib.ListN.{length, drop, drop-of-length-le, length-drop}
 use lib.Seq.{take-nil, take-all}
-use Rattle.ask.proofs.places.own.Statement.{statement}
-use Rattle.ask.proofs.places.own.Tie as tie
+use Rattle.reading.proofs.own.Statement.{statement}
+use Rattle.reading.proofs.own.Tie as tie
 
 returns : tie.Need-returns
 returns c =
