@@ -1,17 +1,14 @@
 -- Where the file ends before the stretch does, taking the stretch's length takes all that is left. Assumes nothing.
 use mathlib.Core.Path.{_≡_, sym, _∙_}
-use mathlib.Core.List.{List, []}
-use Prim.Native.Nat.{ℕ, _+_, _-_, _≤_}
+use mathlib.Core.List.{[]}
+use Prim.Native.Nat.{_-_}
 use native.Mathlib.Omega.{arith}
 use borrow.Author.Needs.{needs}
-use lib.ListN.{length, take, drop, length-drop, drop-of-length-le}
-use lib.Seq.{take-all, take-nil, drop-length}
+use lib.ListN.{length, drop, drop-of-length-le}
+use lib.Seq.{take-nil, drop-length}
+use Rattle.le.proofs.Laws.{to-end}
 use Rattle.listing.proofs.bytes_of.Statement.{statement}
 use Rattle.listing.proofs.bytes_of.Tie as tie
-
--- what reaches to the end of a list is all that is left of it
-to-end : (l : List ℕ) (a n : ℕ) → length l ≤ a + n → take n (drop a l) ≡ drop a l
-to-end l a n h = take-all n (drop a l) (simp length-drop (omega arith))
 
 returns : tie.Need-returns
 returns c =
