@@ -15,7 +15,7 @@ use Rattle.moments.specs.Moments.{momentsOf, findIn}
 use Rattle.reading.specs.declared.Found.{Found}
 use Rattle.reading.specs.declared.Found.the-variants as found
 use Rattle.reading.specs.declared.Stretch.{Stretch}
-use Rattle.reading.specs.Growth.{Grows}
+use Rattle.reading.specs.Growth.{Same, Grows}
 use Rattle.reading.specs.Reading.{stretches, nth, bytesOf}
 use Rattle.reading.proofs.Grown.{grows}
 use Rattle.ask.specs.declared.answers.GateAnswer.the-variants as gate
@@ -27,7 +27,7 @@ use Rattle.ask.specs.Answers.{radialTold, momentTold, dataTold, gateTold
 use Rattle.ask.specs.Growth.{gateAsked, Kept, AnswersGrow}
 use Rattle.ask.specs.Places.{inStretch, inFound, whereIs}
 use Rattle.ask.specs.Tallies.{added, tallyOver, tallyOf, tallyTold}
-use Rattle.ask.proofs.Growing.{all-placed, nth-kept, nth-same, nth-placed, tally-same, accepted-kept, no-fewer}
+use Rattle.ask.proofs.Growing.{nth-kept, nth-of, nth-placed, tally-same, accepted-kept, no-fewer}
 use Rattle.ask.proofs.Tallying.{tally-append}
 
 module _ (A C : List ℕ) (some : 0 < length C) where
@@ -38,15 +38,15 @@ module _ (A C : List ℕ) (some : 0 < length C) where
     g = grows A C some
 
     there : nth (stretches (A ++ C)) n ≡ found.There s
-    there = ap (λ (l : List Stretch). nth l n) (g .radials) ∙ nth-kept A C (stretches A) (g .later) n s here
+    there = ap (λ (l : List Stretch). nth l n) (g .radials) ∙ nth-kept (stretches A) (g .later) n s here
 
     same : bytesOf (A ++ C) s ≡ bytesOf A s
-    same = nth-same A C (stretches A) n s (g .bytes) here
+    same = nth-of (Same A (A ++ C)) (λ x. bytesOf (A ++ C) x ≡ bytesOf A x) (λ x l h. h) (stretches A) n s (g .bytes) here
 
     header : radialAt (A ++ C) (s .start) ≡ radialAt A (s .start)
     unfolding radialAt
     header =
-        let p = nth-placed A C (stretches A) n s (all-placed A) here in
+        let p = nth-placed A n s here in
         let h = p .header in
         let w = p .within in
         ap radialOf (part-in 64 A C (s .start) (omega arith))

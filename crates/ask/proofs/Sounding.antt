@@ -2,18 +2,18 @@
 use Prim.Native.Nat.{ℕ, zero, suc, _+_, _-_, _<_, _≤_}
 use native.Mathlib.Nat.{mod-eq-of-lt}
 use native.Mathlib.Omega.{arith}
-use mathlib.Core.Bool.{Bool, true, false, cond, _&&_}
-use mathlib.Core.List.{List, [], _∷_}
+use mathlib.Core.Bool.{Bool, true, false, cond}
+use mathlib.Core.List.{List}
 use mathlib.Core.Logic.{_⊎_, inl, inr}
 use mathlib.Core.Path.{_≡_, refl, sym, ap, subst, _∙_}
 use borrow.Author.Tests.{leb-true, le-leb, eqb-true}
 use lib.Dec.{leb, eqb, lit<}
 use lib.IntN.{pos}
 use lib.ListN.{length, drop, length-take, length-drop}
-use lib.Seq.{getD-take, getD-drop}
 use mir.Syntax.{w16, w32}
 use Rattle.le.specs.Le.{part, int}
-use Rattle.le.proofs.Laws.{part-same}
+use Rattle.le.proofs.Laws.{part-take, part-drop}
+use Rattle.le.proofs.Tests.{both}
 use Rattle.rules.specs.Moments.{bit, binLengthOk}
 use Rattle.rules.specs.Ranges.{among, within}
 use Rattle.rules.proofs.Numbers.{by-bits, exactly}
@@ -35,18 +35,14 @@ use Rattle.reading.proofs.Radials.{all-whole}
 use Rattle.ask.specs.declared.places.Where.the-variants.{At}
 use Rattle.ask.specs.Places.{inStretch, inFound, whereIs}
 use Rattle.ask.specs.Sound.{Sound}
-use Rattle.ask.proofs.Growing.{Placed, all-placed, nth-placed}
+use Rattle.ask.proofs.Growing.{Placed, nth-of, nth-placed}
 
 -- ---- what an accepted header holds
-
-and-both : (a b : Bool) → (a && b) ≡ true → (a ≡ true) × (b ≡ true)
-and-both true b e = (refl, e)
-and-both false b e = absurd (let z : _≡_ {A = ℕ} 0 1 = cc in omega arith)
 
 bounds : (lo hi x : ℕ) → hi < 2147483648 → among (pos lo) (pos hi) (int x) ≡ true → (lo ≤ x) × (x ≤ hi)
 unfolding within
 bounds lo hi x h e =
-    let a = and-both (leb lo x) (leb x hi) (sym (by-bits w32 lo hi x h) ∙ e) in
+    let a = both (leb lo x) (leb x hi) (sym (by-bits w32 lo hi x h) ∙ e) in
     (leb-true lo x (a .0), leb-true x hi (a .1))
 
 bin-is : (b : Bool) (x : ℕ) → cond b (eqb x 2) (eqb x 1) ≡ true → (x ≡ 1) ⊎ (x ≡ 2)
@@ -80,9 +76,7 @@ module _ (f : List ℕ) (s : Stretch) (h : Placed f s) where
 
   own-part : (n at : ℕ) → at + n ≤ s .end - s .start → part n (bytesOf f s) at ≡ part n f (s .start + at)
   own-part n at k =
-      part-same n (bytesOf f s) f at (s .start + at)
-      (λ i j. let e : s .start + at + i ≡ s .start + (at + i) = omega arith in
-      rw (getD-take (s .end - s .start) (drop (s .start) f) (at + i) 0 (omega arith), getD-drop (s .start) f (at + i) 0, e))
+      part-take n (drop (s .start) f) at (s .end - s .start) k ∙ part-drop n (s .start) f at
 
   own-moment : (at : ℕ) → at + 32 ≤ s .end - s .start → momentAt (bytesOf f s) at ≡ momentAt f (s .start + at)
   unfolding momentAt
@@ -126,13 +120,6 @@ module _ (f : List ℕ) (s : Stretch) (h : Placed f s) (t mask sizes : ℕ) wher
 
 -- ---- what a question finds
 
-nth-whole : (f : List ℕ) (l : List Stretch) (n : ℕ) (s : Stretch) → AllWhole f l → nth l n ≡ found.There s → WholeRadial f s
-unfolding nth
-nth-whole f [] n s h e = absurd (let z : _≡_ {A = ℕ} 0 1 = cc in omega arith)
-nth-whole f (x ∷ l) zero s h e = absurd (let z : _≡_ {A = ℕ} 0 1 = cc in omega arith)
-nth-whole f (x ∷ l) (suc zero) s h e = let z : x ≡ s = cc in subst (WholeRadial f) z (h .0)
-nth-whole f (x ∷ l) (suc (suc n)) s h e = nth-whole f l (suc n) s (h .1) e
-
 in-stretch : (x s : Stretch) (v : moment.Found) (p : ℕ) → inStretch x v ≡ At s p → (x ≡ s) × (v ≡ moment.the-variants.At p)
 unfolding inStretch
 in-stretch x s (moment.the-variants.At q) p e = (cc, cc)
@@ -148,8 +135,8 @@ sound f n t s p e = go (nth (stretches f) n) refl
         let y : inStretch x (findIn (bytesOf f x) t (momentsOf (bytesOf f x))) ≡ At s p = rw q at e in
         let i = in-stretch x s _ p y in
         let here : nth (stretches f) n ≡ found.There s = q ∙ ap found.There (i .0) in
-        let w = nth-whole f (stretches f) n s (all-whole f) here in
-        let h = nth-placed f [] (stretches f) n s (all-placed f) here in
+        let w = nth-of (AllWhole f) (WholeRadial f) (λ x l h. h) (stretches f) n s (all-whole f) here in
+        let h = nth-placed f n s here in
         let at-p : findIn (bytesOf f s) t (momentsOf (bytesOf f s)) ≡ moment.the-variants.At p = rw (i .0) at (i .1) in
         let r = own-radial f s h in
         found-sound f s h t (w .mask) (w .sizes) _ 64 p (s .start + 64) 0 _ refl (w .moments)

@@ -2,16 +2,15 @@
 -- makes the agreement longer, since parts that agree join; one entry that differs makes the bytes another list. Assumes
 -- nothing.
 use Prim.Native.Nat.{ℕ, _+_, _-_, _%_, _^_, _≤_}
-use native.Mathlib.Nat.{zero-add, add-zero, one-le-pow, mod-lt}
+use native.Mathlib.Nat.{zero-add, one-le-pow, mod-lt}
 use native.Mathlib.Omega.{arith}
 use mathlib.Core.Bool.{false}
 use mathlib.Core.List.{List, [], _++_, append-nil}
 use mathlib.Core.Path.{_≡_, refl, sym, ap, ap₂, _∙_}
 use lib.Dec.{lit<}
-use lib.ListN.{length, getD, drop}
-use lib.Seq.{getD-drop}
+use lib.ListN.{length}
 use Rattle.le.specs.Le.{le, bytes, part, Bytes}
-use Rattle.le.proofs.Laws.{le-bytes, bytes-le, bytes-low, le-part, part-join, part-same, part-all}
+use Rattle.le.proofs.Laws.{le-bytes, bytes-le, bytes-low, le-own, part-join, part-all}
 use Rattle.index.specs.Answer.{same}
 use Rattle.index.proofs.Same.{not-same}
 
@@ -22,7 +21,7 @@ number-is k v f at bs e = sym (bytes-le k f at bs) ∙ ap (bytes k) e ∙ bytes-
 number-of : (k v : ℕ) (f : List ℕ) (at : ℕ) → part k f at ≡ bytes k v → le k f at ≡ v % 256 ^ k
 number-of k v f at e =
     let h = mod-lt v {m = 256 ^ k} (one-le-pow k 256 (lit< tt)) in
-    ap (le k f) (sym (add-zero at)) ∙ sym (le-part k k f at 0 (omega arith)) ∙ ap (λ (l : List ℕ). le k l 0) (e ∙ sym (bytes-low k v))
+    sym (le-own k f at) ∙ ap (λ (l : List ℕ). le k l 0) (e ∙ sym (bytes-low k v))
     ∙ ap (λ (l : List ℕ). le k l 0) (sym (append-nil (bytes k (v % 256 ^ k)))) ∙ le-bytes k (v % 256 ^ k) [] h
 
 -- parts that agree, one behind the other
@@ -31,10 +30,6 @@ longer x y m n at to e p q = more x ∙ ap₂ (λ (u v : List ℕ). u ++ v) p q 
   where
     more : (f : List ℕ) → part (m + n) f at ≡ part m f at ++ part n f to
     more f = rw e at (sym (part-join m n f at))
-
--- a part of what follows a place
-pub part-drop : (n m : ℕ) (f : List ℕ) (at : ℕ) → part n (drop m f) at ≡ part n f (m + at)
-part-drop n m f at = part-same n (drop m f) f at (m + at) (λ i h. getD-drop m f (at + i) 0 ∙ ap (λ (j : ℕ). getD f j 0) (omega arith))
 
 -- a part that is not the index's
 pub differs : (index x : List ℕ) (k at : ℕ) (e : List ℕ) → part k index at ≡ e → (part k x at ≡ e → ⊥) → same index x ≡ false

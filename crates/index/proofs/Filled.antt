@@ -6,11 +6,11 @@ use native.Mathlib.Omega.{arith}
 use mathlib.Core.List.{List, _++_}
 use mathlib.Core.Logic.{_⊎_, inl, inr}
 use mathlib.Core.Path.{_≡_, refl, sym, ap, ap₂, _∙_}
-use lib.ListN.{length, take, drop, length-append, length-drop, take-append-drop}
-use lib.Seq.{length-take-le, take-all}
+use lib.ListN.{length, take, drop, length-append, take-append-drop}
+use lib.Seq.{length-take-le}
 use Rattle.le.specs.Le.{part, patch, stored}
-use Rattle.le.proofs.Laws.{part-here, part-in, part-past, part-take, part-patch, length-patch, stored-in}
-use Rattle.index.proofs.Agree.{part-drop, Agree, agree-none, agree-low, agree-high, agree-all}
+use Rattle.le.proofs.Laws.{part-here, part-in, part-past, part-take, part-drop, to-end, part-patch, length-patch, stored-in}
+use Rattle.index.proofs.Agree.{Agree, agree-none, agree-low, agree-high, agree-all}
 
 -- what is put leaves a part before it, or after it
 apart : (n : ℕ) (f : List ℕ) (p at : ℕ) (x : List ℕ) → at + length x ≤ length f → (p + n ≤ at) ⊎ (at + length x ≤ p) → part n (patch f at x) p ≡ part n f p
@@ -96,7 +96,7 @@ module _ {index before : List ℕ} {seam first second : ℕ} {room : List ℕ} (
       rest r l =
           let s = h .fits in
           sym (part-here (length before - length index) r (length index) (omega arith))
-          ∙ take-all (length before - length index) (drop (length index) r) (omega (arith, length-drop (length index) r))
+          ∙ to-end r (length index) (length before - length index) (omega arith)
 
   -- all entries put
   pub filled-all : first ≡ seam → second ≡ length index → room ≡ patch before 0 index

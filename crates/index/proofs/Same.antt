@@ -1,21 +1,17 @@
 -- The test of two lists holds exactly of equal ones, by induction; so an index is right exactly when the file is complete
 -- and the bytes are its index. An answer's numbers tell the answer. Assumes nothing.
 use Prim.Native.Nat.{ℕ}
-use native.Mathlib.Omega.{arith}
-use mathlib.Core.Bool.{Bool, true, false, _&&_}
+use mathlib.Core.Bool.{true, false}
 use mathlib.Core.List.{List, [], _∷_}
 use mathlib.Core.Path.{_≡_, refl, ap₂}
 use borrow.Author.Tests.{eq-eqb, eqb-true}
 use lib.Dec.{eqb}
+use Rattle.le.proofs.Tests.{both, fails}
 use Rattle.reading.specs.Reading.{told}
 use Rattle.index.specs.declared.Answer.{Answer}
 use Rattle.index.specs.declared.Answer.the-variants.{Written, Refused}
 use Rattle.index.specs.Index.{indexOf}
 use Rattle.index.specs.Answer.{same, complete, toldIndex, rightFor}
-
-pub both : (a b : Bool) → (a && b) ≡ true → (a ≡ true) × (b ≡ true)
-both true b e = (refl, e)
-both false b e = absurd (let z : _≡_ {A = ℕ} 0 1 = cc in omega arith)
 
 -- lists that pass the test are equal, and the other way round
 pub same-is : (a b : List ℕ) → same a b ≡ true → a ≡ b
@@ -34,11 +30,7 @@ pub is-same : (a b : List ℕ) → a ≡ b → same a b ≡ true
 is-same a b e = rw e (same-self b)
 
 pub not-same : (a b : List ℕ) → (a ≡ b → ⊥) → same a b ≡ false
-not-same a b n = go (same a b) (same-is a b)
-  where
-    go : (t : Bool) → (t ≡ true → a ≡ b) → t ≡ false
-    go true h = absurd (n (h refl))
-    go false h = refl
+not-same a b n = fails (same a b) (λ t. n (same-is a b t))
 
 -- an index is right exactly when the file is complete and the bytes are its index
 pub right-only : (f x : List ℕ) → rightFor f x ≡ true → (told f ≡ 0 ∷ []) × (indexOf f ≡ x)

@@ -13,12 +13,12 @@ use borrow.Author.Tests.{eq-eqb, ne-eqb}
 use lib.ListN.{length, getD, drop, length-append}
 use lib.Seq.{drop-at, drop-append-seam, drop-drop}
 use Rattle.le.specs.Le.{bytes, part, run}
-use Rattle.le.proofs.Laws.{length-bytes, length-run, part-in, part-all}
+use Rattle.le.proofs.Laws.{length-bytes, length-run, part-in, part-drop, part-all}
 use Rattle.reading.specs.declared.Stretch.{Stretch}
 use Rattle.index.specs.Index.{radialsIn, perCut, startOf, countOf, cutSection, placeOf, radialSection, indexFor}
 use Rattle.index.specs.Answer.{same}
 use Rattle.index.specs.Making.{secondAt}
-use Rattle.index.proofs.Agree.{part-drop, differs}
+use Rattle.index.proofs.Agree.{differs}
 use Rattle.index.proofs.Walked.{Rising, rising-from, rising-none}
 
 -- ---- the entry that is the next of what is to come, and what follows it

@@ -26,7 +26,7 @@ use Rattle.reading.specs.Reading.{fuel, stop, ending, stretchIf, stretchOf, tra
 use Rattle.reading.specs.Step.{takeGeneric, takeSite, takeTask, takeCut, takeRadial, takeMoment, takeData, blockAt}
 use Rattle.reading.proofs.Grown.{step-done}
 use Rattle.reading.proofs.Loops.{further, no-more}
-use Rattle.reading.proofs.Run.{ended, settle-took, took-inj, due-either, ends-data, taken, run-holds}
+use Rattle.reading.proofs.Run.{ended, settle-took, took-inj, due-either, ends-data, taken, run-holds, last-holds}
 use Rattle.index.specs.Index.{radialsIn}
 
 -- ---- whole radials come cut by cut
@@ -142,8 +142,7 @@ pub cuts-read : (f : List ℕ) → told f ≡ 0 ∷ [] → stop f .plan .cuts �
 unfolding Planned
 cuts-read f e =
     planned-end f (stop f .due) (stop f) (ended f (stop f) (step-done (ending f) e) .0)
-    (run-holds (λ v. v) (λ v n r. r) f (λ w v. Planned f (w .due) w → Planned f (v .due) v) (λ w h. h)
-    (λ w m v e r h. r (planned-on f (w .due) w m h (taken f w m e .block))) (fuel f) atStart refl)
+    (last-holds f (λ w. Planned f (w .due) w) (λ w m q h. planned-on f (w .due) w m h (taken f w m q .block)) (fuel f) atStart refl)
 
 -- ---- the radials that are still to come, by what an advance comes to
 

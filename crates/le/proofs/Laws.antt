@@ -9,7 +9,7 @@ use native.Mathlib.Omega.{arith}
 use lib.Dec.{lit<, leb}
 use lib.Arith.{mod-mul}
 use lib.ListN.{length, getD, take, drop, set, length-append, length-take, length-drop, List·getD-eq-default, List·getD-append}
-use lib.Seq.{drop-cons, take-at, drop-append-add, drop-drop, getD-append-add, getD-take, length-take-le, take-all, drop-length, sets-eq, set-at, append-snoc, paste-zero}
+use lib.Seq.{drop-cons, take-at, drop-append-add, drop-drop, getD-append-add, getD-take, getD-drop, length-take-le, take-all, drop-length, sets-eq, set-at, append-snoc, paste-zero}
 use borrow.Author.Tests.{le-leb, lt-leb}
 use Rattle.le.specs.Le.{le, bytes, part, patch, stored, Bytes, run, items}
 
@@ -109,6 +109,10 @@ part-all n f h = sym (part-here n f 0 (omega arith)) ∙ take-all n f (omega ari
 pub part-is : (n : ℕ) (f : List ℕ) (at : ℕ) → at + n ≤ length f → take (at + n - at) (drop at f) ≡ part n f at
 part-is n f at h = let e : at + n - at ≡ n = omega arith in rw e (part-here n f at h)
 
+-- what reaches to the end of a list is all that is left of it
+pub to-end : (l : List ℕ) (a n : ℕ) → length l ≤ a + n → take n (drop a l) ≡ drop a l
+to-end l a n h = take-all n (drop a l) (simp length-drop (omega arith))
+
 -- the element of a part
 pub part-at : (n : ℕ) (f : List ℕ) (at i : ℕ) → i < n → getD (part n f at) i 0 ≡ getD f (at + i) 0
 unfolding part
@@ -116,7 +120,7 @@ part-at zero f at i h = absurd (omega arith)
 part-at (suc n) f at zero h = rw add-zero
 part-at (suc n) f at (suc i) h = let e : at + suc i ≡ at + 1 + i = omega arith in rw e (part-at n f (at + 1) i (omega arith))
 
--- a part and a number see only the bytes at their places
+-- a part sees only the bytes at its places, and a number sees only the part at its place
 pub part-same : (n : ℕ) (f g : List ℕ) (at to : ℕ) → ((i : ℕ) → i < n → getD f (at + i) 0 ≡ getD g (to + i) 0) → part n f at ≡ part n g to
 unfolding part
 part-same zero f g at to h = refl
@@ -125,13 +129,10 @@ part-same (suc n) f g at to h =
     let r = part-same n f g (at + 1) (to + 1) (λ i k. let ea : at + 1 + i ≡ at + suc i = omega arith in let et : to + 1 + i ≡ to + suc i = omega arith in rw (ea, et) (h (suc i) (omega arith))) in
     rw (h0, r)
 
-pub le-same : (n : ℕ) (f g : List ℕ) (at to : ℕ) → ((i : ℕ) → i < n → getD f (at + i) 0 ≡ getD g (to + i) 0) → le n f at ≡ le n g to
-unfolding le
-le-same zero f g at to h = refl
-le-same (suc n) f g at to h =
-    let h0 : getD f at 0 ≡ getD g to 0 = rw (add-zero at, add-zero to) at (h 0 (omega arith)) in
-    let r = le-same n f g (at + 1) (to + 1) (λ i k. let ea : at + 1 + i ≡ at + suc i = omega arith in let et : to + 1 + i ≡ to + suc i = omega arith in rw (ea, et) (h (suc i) (omega arith))) in
-    rw (h0, r)
+pub le-own : (n : ℕ) (f : List ℕ) (at : ℕ) → le n (part n f at) 0 ≡ le n f at
+unfolding le part
+le-own zero f at = refl
+le-own (suc n) f at = rw (le-cons n (getD f at 0) (part n f (at + 1)) 0, le-own n f (at + 1))
 
 -- a part that follows a list, and one within its front
 pub part-past : (n : ℕ) (a b : List ℕ) (k : ℕ) → part n (a ++ b) (length a + k) ≡ part n b k
@@ -140,16 +141,19 @@ part-past n a b k = part-same n (a ++ b) b (length a + k) k (λ i h. let e : len
 pub part-in : (n : ℕ) (a b : List ℕ) (at : ℕ) → at + n ≤ length a → part n (a ++ b) at ≡ part n a at
 part-in n a b at h = part-same n (a ++ b) a at at (λ i k. List·getD-append a b 0 (at + i) (omega arith))
 
--- a part within what was kept of a list
+-- a part within a list's front, and one of what follows a place
 pub part-take : (n : ℕ) (f : List ℕ) (at m : ℕ) → at + n ≤ m → part n (take m f) at ≡ part n f at
 part-take n f at m h = part-same n (take m f) f at at (λ i k. getD-take m f (at + i) 0 (omega arith))
+
+pub part-drop : (n m : ℕ) (f : List ℕ) (at : ℕ) → part n (drop m f) at ≡ part n f (m + at)
+part-drop n m f at = part-same n (drop m f) f at (m + at) (λ i h. getD-drop m f (at + i) 0 ∙ ap (λ (j : ℕ). getD f j 0) (omega arith))
 
 -- a part, and a number, of a part
 pub part-part : (m n : ℕ) (f : List ℕ) (at k : ℕ) → k + m ≤ n → part m (part n f at) k ≡ part m f (at + k)
 part-part m n f at k h = part-same m (part n f at) f k (at + k) (λ i j. let e : at + k + i ≡ at + (k + i) = omega arith in rw e (part-at n f at (k + i) (omega arith)))
 
 pub le-part : (m n : ℕ) (f : List ℕ) (at k : ℕ) → k + m ≤ n → le m (part n f at) k ≡ le m f (at + k)
-le-part m n f at k h = le-same m (part n f at) f k (at + k) (λ i j. let e : at + k + i ≡ at + (k + i) = omega arith in rw e (part-at n f at (k + i) (omega arith)))
+le-part m n f at k h = sym (le-own m (part n f at) k) ∙ ap (λ (l : List ℕ). le m l 0) (part-part m n f at k h) ∙ le-own m f (at + k)
 
 -- each byte of a part is a byte
 pub part-bytes : (n : ℕ) (f : List ℕ) (at : ℕ) → Bytes f → Bytes (part n f at)

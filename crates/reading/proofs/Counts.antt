@@ -2,7 +2,7 @@
 use Prim.Native.Nat.{ℕ, zero, suc, _+_}
 use native.Mathlib.Omega.{arith}
 use mathlib.Core.Path.{_≡_, refl, sym, ap, subst, subst⁻¹, _∙_}
-use mathlib.Core.Bool.{Bool, true, false, not, cond}
+use mathlib.Core.Bool.{Bool, true, false, not, _&&_, cond}
 use mathlib.Core.List.{List, []}
 use borrow.Author.Tests.{lt-ltb, ne-eqb}
 use lib.Dec.{eqb, ltb}
@@ -21,10 +21,10 @@ use Rattle.reading.specs.declared.step.Step.the-variants.{Took}
 use Rattle.walk.specs.Due.{dueIf, endsRadial, radialDue, atStart}
 use Rattle.walk.specs.After.{afterData, afterDataIf, closesCut}
 use Rattle.reading.specs.Step.{settle, takeGeneric, takeSite, takeTask, takeCut, takeRadial, takeMoment, takeData, cutIn, blockAt, stepOf}
-use Rattle.reading.specs.Reading.{walkOn, last, fuel, stop, stretchIf, stretchOf, trace, stretches, verdictTold, endingTold, Tells}
+use Rattle.reading.specs.Reading.{last, fuel, stop, stretchIf, stretchOf, trace, stretches, verdictTold, endingTold, Tells}
 use Rattle.reading.specs.declared.Verdict.{Verdict}
 use Rattle.reading.proofs.Loops.{read-stops}
-use Rattle.reading.proofs.Run.{stays, settle-took, took-inj, due-either, ends-data, taken, Goes, on, off, goes, run-took, run-stays}
+use Rattle.reading.proofs.Run.{stays, settle-took, took-inj, due-either, ends-data, taken, run-took, run-halts, run-along}
 
 -- inside a radial, its sequence number is one more than the whole radials
 unfoldable pub Steady : Due → Walk → Type 0
@@ -45,10 +45,7 @@ settle-fine (Broken a b) at n m e = cc
 steady-data : (more closes later : Bool) (w : Walk) (end : ℕ) → Steady due.Data w → Steady (afterDataIf more closes later w end .due) (afterDataIf more closes later w end)
 unfolding Steady dueIf
 steady-data true closes later w end h = h
-steady-data false true true w end h = tt
-steady-data false true false w end h = tt
-steady-data false false true w end h = tt
-steady-data false false false w end h = tt
+steady-data false closes later w end h = due-either Steady (closes && not later) due.Nothing due.Radial _ tt tt
 
 steady-radial : (p : List ℕ) (w m : Walk) → takeRadial (radialAt p (w .at)) (cutIn p w) w ≡ Took m → Steady (m .due) m
 unfolding takeRadial radialCheck Steady
@@ -103,19 +100,12 @@ count-step false w m t l i c g = omega arith
 
 -- the stretches from a walk on, and the radials counted before it, are those counted where the run stops
 pub counted-on : (k : ℕ) (f : List ℕ) (w : Walk) → Steady (w .due) w → length (trace k f w) + w .count .whole ≡ last k f w .count .whole
-unfolding walkOn
-counted-on zero f w h = omega arith
-counted-on (suc k) f w h = go (goes f w) (λ m. counted-on k f m)
-  where
-    go : Goes f w → ((m : Walk) → Steady (m .due) m → length (trace k f m) + m .count .whole ≡ last k f m .count .whole)
-        → length (trace (suc k) f w) + w .count .whole ≡ last (suc k) f w .count .whole
-    go (off s) r = rw (run-stays (λ v. []) stretchOf (suc k) f w s, run-stays (λ v. v) (λ v n r. r) (suc k) f w s) (omega arith)
-    go (on m e) r =
-        let b = taken f w m e .block in
-        let i = r m (steady-on (w .due) _ w m h b) in
-        let c = whole-on (w .due) _ w m b in
-        rw (run-took (λ v. []) stretchOf k f w m e, run-took (λ v. v) (λ v n r. r) k f w m e)
-        (count-step (endsRadial (w .due) (w .rest .todo)) w m (trace k f m) (last k f m .count .whole) i c (λ x. ends-steady (w .due) w h x))
+counted-on k f =
+    run-along (λ v. v) (λ v n r. r) f (λ k w v. Steady (w .due) w → length (trace k f w) + w .count .whole ≡ v .count .whole)
+    (λ k w s h. rw (run-halts (λ v. []) stretchOf k f w s) (omega arith))
+    (λ k w m v e r h. let b = taken f w m e .block in
+    rw (run-took (λ v. []) stretchOf k f w m e)
+    (count-step (endsRadial (w .due) (w .rest .todo)) w m (trace k f m) (v .count .whole) (r (steady-on (w .due) _ w m h b)) (whole-on (w .due) _ w m b) (λ x. ends-steady (w .due) w h x))) k
 
 -- what reading counts
 pub counted-all : (f : List ℕ) → stop f .count .whole ≡ length (stretches f)

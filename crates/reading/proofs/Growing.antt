@@ -1,5 +1,5 @@
 -- Growth, step by step: what was read of a file stays as it was when bytes are added at its end. Assumes nothing.
-use Prim.Native.Nat.{ℕ, zero, suc, _+_, _-_, _<_, _≤_}
+use Prim.Native.Nat.{ℕ, _+_, _-_, _<_, _≤_}
 use native.Mathlib.Omega.{arith}
 use mathlib.Core.Path.{_≡_, refl, sym, ap, ap₂, subst⁻¹, _∙_}
 use mathlib.Core.Bool.{Bool, true, false}
@@ -13,7 +13,7 @@ use Rattle.reading.specs.declared.step.Step.the-variants.{Took, Open, Re
 use Rattle.walk.specs.Due.{sizeOf, isEnd, endsRadial, atStart}
 use Rattle.reading.specs.Step.{blockAt, stepOf}
 use Rattle.reading.specs.Reading.{walkOn, last, fuel, stop, ending, stretchIf, stretchOf, trace, stretches}
-use Rattle.reading.proofs.Run.{View, here, short, over, done, view, is-here, is-short, is-over, is-done, Plain, took, refused, block-plain, ended, left, taken, stays, Goes, on, off, goes, run-stays, run-step, run-took, enough}
+use Rattle.reading.proofs.Run.{View, here, short, over, done, view, is-here, is-short, is-over, is-done, Plain, took, refused, block-plain, ended, left, taken, stays, run-stays, run-halts, run-took, run-along, run-holds, run-step, enough}
 
 -- a block that is there reads the same
 same-here : (A C : List ℕ) (w : Walk) → isEnd (w .due) ≡ false → w .at + sizeOf w ≤ length A → stepOf (A ++ C) w ≡ stepOf A w
@@ -81,26 +81,16 @@ grows-open A C w n b e = go (view A w)
 
 module _ {X : Type 0} (z : Walk → X) (s : Walk → Walk → X → X) where
   run-grows : (k K : ℕ) (A C : List ℕ) (w : Walk) → left (A ++ C) w < K → walkOn z s K (A ++ C) w ≡ walkOn (walkOn z s K (A ++ C)) s k A w
-  unfolding walkOn
-  run-grows zero K A C w h = refl
-  run-grows (suc k) K A C w h = go (goes A w) (λ m. run-grows k K A C m)
-    where
-      go : Goes A w → ((m : Walk) → left (A ++ C) m < K → walkOn z s K (A ++ C) m ≡ walkOn (walkOn z s K (A ++ C)) s k A m) → walkOn z s K (A ++ C) w ≡ walkOn (walkOn z s K (A ++ C)) s (suc k) A w
-      go (on m e) r =
-          let b = keeps-took A C w m e in
-          let t = taken (A ++ C) w m b .less in
-          run-step z s K (A ++ C) w m h b ∙ ap (s w m) (r m (omega arith)) ∙ sym (run-took (walkOn z s K (A ++ C)) s k A w m e)
-      go (off q) r = sym (run-stays (walkOn z s K (A ++ C)) s (suc k) A w q)
+  run-grows k K A C =
+      run-holds (walkOn z s K (A ++ C)) s A (λ w x. left (A ++ C) w < K → walkOn z s K (A ++ C) w ≡ x) (λ w h. refl)
+      (λ w m x e r h. let b = keeps-took A C w m e in let t = taken (A ++ C) w m b .less in
+      run-step z s K (A ++ C) w m h b ∙ ap (s w m) (r (omega arith))) k
 
 -- the rest, put in at the stop
 last-rest : {X : Type 0} (y : Walk → X) (k : ℕ) (f : List ℕ) (w : Walk) → walkOn y (λ v n r. r) k f w ≡ y (last k f w)
-unfolding walkOn
-last-rest y zero f w = refl
-last-rest y (suc k) f w = go (goes f w) (λ m. last-rest y k f m)
-  where
-    go : Goes f w → ((m : Walk) → walkOn y (λ v n r. r) k f m ≡ y (last k f m)) → walkOn y (λ v n r. r) (suc k) f w ≡ y (last (suc k) f w)
-    go (on m e) r = run-took y (λ v n r. r) k f w m e ∙ r m ∙ ap y (sym (run-took (λ v. v) (λ v n r. r) k f w m e))
-    go (off q) r = run-stays y (λ v n r. r) (suc k) f w q ∙ ap y (sym (run-stays (λ v. v) (λ v n r. r) (suc k) f w q))
+last-rest y k f =
+    run-along y (λ v n r. r) f (λ k w x. x ≡ y (last k f w)) (λ k w h. ap y (sym (run-halts (λ v. v) (λ v n r. r) k f w h)))
+    (λ k w m x e r. r ∙ ap y (sym (run-took (λ v. v) (λ v n r. r) k f w m e))) k
 
 stretch-append : (b : Bool) (w n : Walk) (r t : List Stretch) → stretchIf b w n (r ++ t) ≡ stretchIf b w n r ++ t
 unfolding stretchIf
@@ -108,18 +98,11 @@ stretch-append true w n r t = refl
 stretch-append false w n r t = refl
 
 trace-rest : (y : Walk → List Stretch) (k : ℕ) (f : List ℕ) (w : Walk) → walkOn y stretchOf k f w ≡ trace k f w ++ y (last k f w)
-unfolding walkOn
-trace-rest y zero f w = refl
-trace-rest y (suc k) f w = go (goes f w) (λ m. trace-rest y k f m)
-  where
-    go : Goes f w → ((m : Walk) → walkOn y stretchOf k f m ≡ trace k f m ++ y (last k f m)) → walkOn y stretchOf (suc k) f w ≡ trace (suc k) f w ++ y (last (suc k) f w)
-    go (on m e) r =
-        run-took y stretchOf k f w m e ∙ ap (stretchOf w m) (r m)
-        ∙ stretch-append (endsRadial (w .due) (w .rest .todo)) w m (trace k f m) (y (last k f m))
-        ∙ sym (ap₂ (λ (a : List Stretch) (b : Walk). a ++ y b) (run-took (λ v. []) stretchOf k f w m e) (run-took (λ v. v) (λ v n r. r) k f w m e))
-    go (off q) r =
-        run-stays y stretchOf (suc k) f w q
-        ∙ sym (ap₂ (λ (a : List Stretch) (b : Walk). a ++ y b) (run-stays (λ v. []) stretchOf (suc k) f w q) (run-stays (λ v. v) (λ v n r. r) (suc k) f w q))
+trace-rest y k f =
+    run-along y stretchOf f (λ k w x. x ≡ trace k f w ++ y (last k f w))
+    (λ k w h. rw (run-halts (λ v. []) stretchOf k f w h, run-halts (λ v. v) (λ v n r. r) k f w h))
+    (λ k w m x e r. ap (stretchOf w m) r ∙ stretch-append (endsRadial (w .due) (w .rest .todo)) w m (trace k f m) (y (last k f m))
+    ∙ sym (ap₂ (λ (t : List Stretch) (v : Walk). t ++ y v) (run-took (λ v. []) stretchOf k f w m e) (run-took (λ v. v) (λ v n r. r) k f w m e))) k
 
 -- ---- the longer file's run goes through the stop of the shorter's, and every whole radial of A is in A ++ C
 

@@ -20,8 +20,9 @@ use Rattle.walk.specs.Due.{sizeOf, endsRadial, atStart}
 use Rattle.reading.specs.Step.{settle, takeGeneric, takeSite, takeTask, takeCut, takeRadial, takeMoment, takeData, blockAt, stepOf}
 use Rattle.reading.specs.Reading.{last, fuel, stop, ending, endingTold, stretch, stretchIf, stretchOf, trace, told, bytesOf}
 use Rattle.reading.specs.Growth.{Same, Further, read, refused, Grows}
-use Rattle.reading.proofs.Run.{View, here, short, over, done, view, is-here, is-short, is-over, is-done, Plain, took, taken, stays, run-holds, run-step, last-within, enough}
+use Rattle.reading.proofs.Run.{View, here, short, over, done, view, is-here, is-short, is-over, is-done, Plain, took, taken, stays, run-holds, last-holds, last-within}
 use Rattle.reading.proofs.Run as run
+use Rattle.reading.proofs.Loops.{last-step}
 use Rattle.reading.proofs.Growing.{keeps-refused, grows-complete, grows-open, through, kept, rests}
 
 -- ---- what is told, and the step that tells it
@@ -68,9 +69,8 @@ same-trace k A C =
 
 -- ---- a walk goes on, never back; a refusal stands at or after the block's first byte
 
-last-onward : (k : ℕ) (f : List ℕ) (w : Walk) → w .at ≤ last k f w .at
-last-onward k f =
-    run-holds (λ v. v) (λ v n r. r) f (λ w v. w .at ≤ v .at) (λ w. omega arith) (λ w m v e r. let t = taken f w m e .end in omega arith) k
+pub last-onward : (k : ℕ) (f : List ℕ) (w : Walk) → w .at ≤ last k f w .at
+last-onward k f w = last-holds f (λ v. w .at ≤ v .at) (λ v m e h. let t = taken f v m e .end in omega arith) k w (omega arith)
 
 settle-from : (v : Check) (at : ℕ) (m : Walk) (n p : ℕ) → settle v at m ≡ Refused n p → at ≤ p
 unfolding settle
@@ -108,7 +108,7 @@ module _ (A C : List ℕ) (some : 0 < length C) where
   goes-on (run.took m e) s =
       let t = taken (A ++ C) (stop A) m e .end in
       let l = last-onward (fuel (A ++ C)) (A ++ C) m in
-      let q : stop (A ++ C) ≡ last (fuel (A ++ C)) (A ++ C) m = through A C ∙ run-step (λ v. v) (λ v n r. r) (fuel (A ++ C)) (A ++ C) (stop A) m (enough (A ++ C) (stop A)) e in
+      let q : stop (A ++ C) ≡ last (fuel (A ++ C)) (A ++ C) m = through A C ∙ last-step (A ++ C) (stop A) m e in
       read (rw q (omega arith))
   goes-on (run.refused n p e) s =
       let r = rests A C (Refused n p) tt e in

@@ -1,15 +1,16 @@
 -- Every stretch that a walk passes is a whole radial: its header was accepted, and its moments tile it. The walk from a
--- radial's header to its last data is followed step by step. Assumes nothing.
+-- radial's header to its last data is followed step by step, and what is shown of one radial holds of each. Assumes nothing.
 use Prim.Native.Nat.{ℕ, zero, suc, _+_, _-_, _<_, _≤_}
 use native.Mathlib.Omega.{arith}
 use mathlib.Core.Path.{_≡_, refl, sym, ap, subst, _∙_}
 use mathlib.Core.Bool.{Bool, true, false, not, _&&_}
-use mathlib.Core.List.{List}
+use mathlib.Core.List.{List, [], _∷_}
 use lib.Dec.{ltb, lit<}
 use lib.ListN.{length, take}
 use mir.Syntax.{w32}
 use borrow.Author.Tests.{eqb-true, eqb-false, lt-ltb, le-ltb, leb-true}
 use Rattle.le.proofs.Laws.{part-take}
+use Rattle.le.proofs.Tests.{both}
 use Rattle.rules.specs.Moments.{momentNumberOk, withBit}
 use Rattle.rules.specs.Ranges.{within}
 use Rattle.rules.proofs.Numbers.{by-bits}
@@ -28,12 +29,12 @@ use Rattle.reading.specs.declared.Onward.the-variants.{Whole, Stopped}
 use Rattle.reading.specs.declared.step.Step.the-variants.{Took}
 use Rattle.walk.specs.Due.{sizeAt, dueIf, endsRadial, radialDue, atStart}
 use Rattle.walk.specs.After.{afterData, afterDataIf, closesCut, afterRadial, afterMoment}
-use Rattle.reading.specs.Step.{takeGeneric, takeSite, takeTask, takeCut, takeRadial, takeMoment, takeData, cutIn, blockAt}
-use Rattle.reading.specs.Reading.{walkOn, fuel, stretch, trace, stretches, advanceIf, onTo, advanceOf}
+use Rattle.reading.specs.Step.{takeGeneric, takeSite, takeTask, takeCut, takeRadial, takeMoment, takeData, cutIn, blockAt, stepOf}
+use Rattle.reading.specs.Reading.{fuel, stretch, trace, stretches, advanceIf, onTo, advanceOf}
 use Rattle.reading.specs.Tiling.{dueWith, Tiled, none, more, WholeRadial, AllWhole}
 use Rattle.reading.proofs.Counts.{settle-fine}
 use Rattle.reading.proofs.Loops.{further, no-more}
-use Rattle.reading.proofs.Run.{settle-took, took-inj, ends-data, left, taken, Goes, on, off, goes, run-took, run-stays, enough}
+use Rattle.reading.proofs.Run.{settle-took, took-inj, due-either, ends-data, left, taken, run-holds, enough}
 
 -- ---- a block is the same in the file and in the part of it that ends with the block
 
@@ -50,12 +51,8 @@ moment-same f at = ap momentOf (part-take 32 f at (at + 32) (omega arith))
 some-moment : (r k : ℕ) → momentNumberOk r k ≡ true → 1 ≤ k
 unfolding momentNumberOk within
 some-moment r k e =
-    let a : within 1 64 k ≡ true = sym (by-bits w32 1 64 k (lit< tt)) ∙ and-left _ _ e in
-    leb-true 1 k (and-left _ _ a)
-  where
-    and-left : (a b : Bool) → (a && b) ≡ true → a ≡ true
-    and-left true b e = refl
-    and-left false b e = cc
+    let a : within 1 64 k ≡ true = sym (by-bits w32 1 64 k (lit< tt)) ∙ both _ _ e .0 in
+    leb-true 1 k (both _ _ a .0)
 
 -- ---- what a walk still has before it, up to the end of the radial that becomes whole next
 
@@ -163,47 +160,17 @@ module _ (f : List ℕ) (w m : Walk) (s : Stretch) (later : Before (m .due) f m 
   back due.Cut e a t = out-back f w _ s (omega arith) (out-if _ f _ s (moved _ (settle-took _ _ _ m e)))
   back due.Radial e a t = back-radial e
   back due.Moment e a t = back-moment e
-  back due.Data e a t = back-data e (more-todo (w .rest .todo) (eqb-false (w .rest .todo) 0 t))
-    where
-      more-todo : (n : ℕ) → (n ≡ 0 → ⊥) → 0 < n
-      more-todo zero h = absurd (h refl)
-      more-todo (suc n) h = omega arith
+  back due.Data e a t = back-data e (let n = eqb-false (w .rest .todo) 0 t in omega arith)
   back due.Nothing e a t = absurd (let z : _≡_ {A = ℕ} 0 1 = cc in omega arith)
 
 -- at a radial's last data, its stretch ends where the data do
-ends : (d : Due) (f : List ℕ) (w m : Walk) (s : Stretch) → stretch w m ≡ s → m .at ≡ w .at + sizeAt d (w .rest .length) → endsRadial d (w .rest .todo) ≡ true → Before d f w s
+ends : (d : Due) (f : List ℕ) (w m : Walk) → m .at ≡ w .at + sizeAt d (w .rest .length) → endsRadial d (w .rest .todo) ≡ true → Before d f w (stretch w m)
 unfolding endsRadial sizeAt Before
-ends d f w m s e a t =
+ends d f w m a t =
     let is-data = ends-data d (w .rest .todo) t in
-    let last : s .end ≡ w .at + w .rest .length = ap (λ (x : Stretch). x .end) (sym e) ∙ (rw is-data at a) in
+    let last : m .at ≡ w .at + w .rest .length = rw is-data at a in
     let zero-left : w .rest .todo ≡ 0 = eqb-true (w .rest .todo) 0 (rw is-data at t) in
-    rw is-data
-    (record {
-      start = ap (λ (x : Stretch). x .start) (sym e);
-      cut = ap (λ (x : Stretch). x .cut) (sym e);
-      end = omega arith;
-      rest = rw (zero-left, last) none;
-    })
-
-whole-fst : (a b : Stretch) (m n : Walk) → Whole a m ≡ Whole b n → a ≡ b
-whole-fst a b m n e = cc
-
-before-at : (k : ℕ) (f : List ℕ) (w : Walk) (s : Stretch) (n : Walk) → walkOn (λ v. Stopped v) onTo k f w ≡ Whole s n → Before (w .due) f w s
-unfolding advanceIf walkOn
-before-at zero f w s n e = absurd (let z : _≡_ {A = ℕ} 0 1 = cc in omega arith)
-before-at (suc k) f w s n e = go (goes f w) (λ m. before-at k f m s n)
-  where
-    go : Goes f w → ((m : Walk) → walkOn (λ v. Stopped v) onTo k f m ≡ Whole s n → Before (m .due) f m s) → Before (w .due) f w s
-    go (off h) r = let z = run-stays (λ v. Stopped v) onTo (suc k) f w h in absurd (let y : _≡_ {A = ℕ} 0 1 = cc in omega arith)
-    go (on m q) r = by (endsRadial (w .due) (w .rest .todo)) refl
-      where
-        by : (b : Bool) → endsRadial (w .due) (w .rest .todo) ≡ b → Before (w .due) f w s
-        by false p =
-            let t = taken f w m q in
-            back f w m s (r m (sym (run-took (λ v. Stopped v) onTo k f w m q ∙ ap (λ (t : Bool). advanceIf t w m (walkOn (λ v. Stopped v) onTo k f m)) p) ∙ e)) (w .due) (t .block) (t .end) p
-        by true p =
-            let y = sym (run-took (λ v. Stopped v) onTo k f w m q ∙ ap (λ (t : Bool). advanceIf t w m (walkOn (λ v. Stopped v) onTo k f m)) p) ∙ e in
-            ends (w .due) f w m s (whole-fst (stretch w m) s m n y) (taken f w m q .end) p
+    rw is-data (record { start = refl; cut = refl; end = omega arith; rest = rw (zero-left, last) none })
 
 -- ---- a walk between radials
 
@@ -228,58 +195,57 @@ before-out due.Moment f w s b o = absurd b
 before-out due.Data f w s b o = absurd b
 before-out due.Nothing f w s b o = o
 
--- from between radials, an advance comes to a whole radial that starts at or after the walk's place
-pub outside : (f : List ℕ) (w : Walk) (s : Stretch) (n : Walk) → Between (w .due) → advanceOf f w ≡ Whole s n → Outside f w s
-outside f w s n b e = before-out (w .due) f w s b (before-at (fuel f) f w s n e)
-
-between-if : (a b : Bool) → Between (dueIf false due.Moment (dueIf (a && not b) due.Nothing due.Radial))
-unfolding Between dueIf
-between-if true true = tt
-between-if true false = tt
-between-if false b = tt
-
 between-data : (d : Due) (p : List ℕ) (w m : Walk) → blockAt d p w ≡ Took m → endsRadial d (w .rest .todo) ≡ true → Between (m .due)
-unfolding blockAt endsRadial takeData afterData
+unfolding blockAt endsRadial takeData afterData Between dueIf
 between-data d p w m e t =
     let is-data = ends-data d (w .rest .todo) t in
     let none-left : w .rest .todo ≡ 0 = eqb-true (w .rest .todo) 0 (rw is-data at t) in
     let a = ap (λ (b : Bool). afterDataIf b (closesCut w) (ltb (w .count .cut) (w .plan .cuts)) w (w .at + w .rest .length)) (le-ltb 0 (w .rest .todo) (omega arith)) in
-    subst (λ (x : Walk). Between (x .due)) (sym a ∙ took-inj _ m (rw is-data at e)) (between-if (closesCut w) (ltb (w .count .cut) (w .plan .cuts)))
+    subst (λ (x : Walk). Between (x .due)) (sym a ∙ took-inj _ m (rw is-data at e)) (due-either (λ d x. Between d) (closesCut w && not (ltb (w .count .cut) (w .plan .cuts))) due.Nothing due.Radial w tt tt)
 
-whole-snd : (a b : Stretch) (m n : Walk) → Whole a m ≡ Whole b n → m ≡ n
-whole-snd a b m n e = cc
+-- ---- along a run: what lies before a walk whose advance comes to a whole radial, and where that leaves the next walk
 
-between-at : (k : ℕ) (f : List ℕ) (w : Walk) (s : Stretch) (n : Walk) → walkOn (λ v. Stopped v) onTo k f w ≡ Whole s n → Between (n .due)
-unfolding advanceIf walkOn
-between-at zero f w s n e = absurd (let z : _≡_ {A = ℕ} 0 1 = cc in omega arith)
-between-at (suc k) f w s n e = go (goes f w) (λ m. between-at k f m s n)
-  where
-    go : Goes f w → ((m : Walk) → walkOn (λ v. Stopped v) onTo k f m ≡ Whole s n → Between (n .due)) → Between (n .due)
-    go (off h) r = let z = run-stays (λ v. Stopped v) onTo (suc k) f w h in absurd (let y : _≡_ {A = ℕ} 0 1 = cc in omega arith)
-    go (on m q) r = by (endsRadial (w .due) (w .rest .todo)) refl
-      where
-        by : (b : Bool) → endsRadial (w .due) (w .rest .todo) ≡ b → Between (n .due)
-        by false p = r m (sym (run-took (λ v. Stopped v) onTo k f w m q ∙ ap (λ (t : Bool). advanceIf t w m (walkOn (λ v. Stopped v) onTo k f m)) p) ∙ e)
-        by true p =
-            let y = sym (run-took (λ v. Stopped v) onTo k f w m q ∙ ap (λ (t : Bool). advanceIf t w m (walkOn (λ v. Stopped v) onTo k f m)) p) ∙ e in
-            subst (λ (x : Walk). Between (x .due)) (whole-snd (stretch w m) s m n y) (between-data (w .due) _ w m (taken f w m q .block) p)
+abbrev Leads : List ℕ → Walk → Onward → Type 0
+Leads f w (Whole s n) = Before (w .due) f w s × Between (n .due)
+Leads f w (Stopped v) = Unit {0}
+
+leads-step : (f : List ℕ) (w m : Walk) (b : Bool) (o : Onward) → stepOf f w ≡ Took m → endsRadial (w .due) (w .rest .todo) ≡ b → Leads f m o → Leads f w (advanceIf b w m o)
+unfolding advanceIf
+leads-step f w m true o e p r = let t = taken f w m e in (ends (w .due) f w m (t .end) p, between-data (w .due) _ w m (t .block) p)
+leads-step f w m false (Whole s n) e p r = let t = taken f w m e in (back f w m s (r .0) (w .due) (t .block) (t .end) p, r .1)
+leads-step f w m false (Stopped v) e p r = tt
+
+leads : (f : List ℕ) (w : Walk) (s : Stretch) (n : Walk) → advanceOf f w ≡ Whole s n → Leads f w (Whole s n)
+leads f w s n e =
+    subst (Leads f w) e
+    (run-holds (λ v. Stopped v) onTo f (Leads f) (λ v. tt) (λ v m o q. leads-step f v m (endsRadial (v .due) (v .rest .todo)) o q refl) (fuel f) w)
+
+-- from between radials, an advance comes to a whole radial that starts at or after the walk's place
+pub outside : (f : List ℕ) (w : Walk) (s : Stretch) (n : Walk) → Between (w .due) → advanceOf f w ≡ Whole s n → Outside f w s
+outside f w s n b e = before-out (w .due) f w s b (leads f w s n e .0)
 
 pub between-next : (f : List ℕ) (w : Walk) (s : Stretch) (n : Walk) → advanceOf f w ≡ Whole s n → Between (n .due)
-between-next f w s n e = between-at (fuel f) f w s n e
+between-next f w s n e = leads f w s n e .1
 
--- ---- every stretch of a file is a whole radial
+-- ---- what holds of no stretch, and of a whole radial with others behind it if of those, holds of a file's stretches
 
-all-from : (k : ℕ) (f : List ℕ) (w : Walk) → left f w < k → Between (w .due) → AllWhole f (trace (fuel f) f w)
-all-from zero f w h b = absurd (omega arith)
-all-from (suc k) f w h b = go (advanceOf f w) refl (λ n. all-from k f n)
-  where
-    go : (a : Onward) → advanceOf f w ≡ a → ((n : Walk) → left f n < k → Between (n .due) → AllWhole f (trace (fuel f) f n)) → AllWhole f (trace (fuel f) f w)
-    go (Stopped v) e r = rw (no-more f w v e) tt
-    go (Whole s n) e r =
-        let x = further f w s n e in
-        let l = x .less in
-        rw (x .more) (outside f w s n b e .whole, r n (omega arith) (between-next f w s n e))
+module _ (f : List ℕ) (P : List Stretch → Type 0) (none : P []) (one : (w : Walk) (s : Stretch) (ss : List Stretch) → Outside f w s → s .end ≤ length f → P ss → P (s ∷ ss)) where
+  each-from : (k : ℕ) (w : Walk) → left f w < k → Between (w .due) → P (trace (fuel f) f w)
+  each-from zero w h b = absurd (omega arith)
+  each-from (suc k) w h b = go (advanceOf f w) refl (each-from k)
+    where
+      go : (a : Onward) → advanceOf f w ≡ a → ((n : Walk) → left f n < k → Between (n .due) → P (trace (fuel f) f n)) → P (trace (fuel f) f w)
+      go (Stopped v) e r = rw (no-more f w v e) none
+      go (Whole s n) e r =
+          let x = further f w s n e in
+          let l = x .less in
+          let i = x .within in
+          rw (x .more) (one w s _ (outside f w s n b e) (rw (x .end) i) (r n (omega arith) (between-next f w s n e)))
 
+  pub each-radial : P (stretches f)
+  unfolding Between
+  each-radial = each-from (fuel f) atStart (enough f atStart) tt
+
+-- every stretch of a file is a whole radial
 pub all-whole : (f : List ℕ) → AllWhole f (stretches f)
-unfolding Between
-all-whole f = all-from (fuel f) f atStart (enough f atStart) tt
+all-whole f = each-radial f (AllWhole f) tt (λ w s ss o h r. (o .whole, r))

@@ -5,7 +5,7 @@ use native.Mathlib.Omega.{arith}
 use mathlib.Core.Path.{_≡_, refl, sym, ap, subst⁻¹, _∙_}
 use mathlib.Core.Bool.{Bool, true, false, not, _&&_}
 use mathlib.Core.List.{List}
-use mathlib.Core.Logic.{_⊎_, inl, inr}
+use mathlib.Core.Logic.{_⊎_, inl, inr, ⊎-elim}
 use lib.ListN.{length, take}
 use lib.Dec.{leb, ltb}
 use borrow.Author.Tests.{le-leb, lt-leb, lt-ltb, le-ltb, leb-true, leb-false, ltb-true, ltb-false}
@@ -66,7 +66,7 @@ pub data Plain (s : Step) : Type 0 where
   took : (m : Walk) → s ≡ Took m → Plain s
   refused : (n p : ℕ) → s ≡ Refused n p → Plain s
 
-settle-plain : (v : Check) (at : ℕ) (n : Walk) → Plain (settle v at n)
+pub settle-plain : (v : Check) (at : ℕ) (n : Walk) → Plain (settle v at n)
 unfolding settle
 settle-plain Fine at n = took n refl
 settle-plain (Broken a b) at n = refused a (at + b) refl
@@ -256,26 +256,42 @@ module _ {X : Type 0} (z : Walk → X) (s : Walk → Walk → X → X) where
   run-stays zero f w h = refl
   run-stays (suc k) f w h = along-stays (stepOf f w) w _ h
 
-  -- what holds where a run stops, and before a step if after it, holds from any walk on
+  -- where a run stops, for want of fuel or since no block is taken
+  pub run-halts : (k : ℕ) (f : List ℕ) (w : Walk) → (k ≡ 0) ⊎ stays (stepOf f w) → walkOn z s k f w ≡ z w
+  unfolding walkOn
+  run-halts k f w (inl e) = rw e
+  run-halts k f w (inr h) = run-stays k f w h
+
+  -- what holds where a run stops, and before a step if after it, holds from any walk on: with the fuel that is left,
+  pub run-along : (f : List ℕ) (P : ℕ → Walk → X → Type 0) → ((k : ℕ) (w : Walk) → (k ≡ 0) ⊎ stays (stepOf f w) → P k w (z w))
+      → ((k : ℕ) (w m : Walk) (x : X) → stepOf f w ≡ Took m → P k m x → P (suc k) w (s w m x)) → (k : ℕ) (w : Walk) → P k w (walkOn z s k f w)
+  unfolding walkOn
+  run-along f P base step zero w = base 0 w (inl refl)
+  run-along f P base step (suc k) w = go (goes f w) (run-along f P base step k)
+    where
+      go : Goes f w → ((m : Walk) → P k m (walkOn z s k f m)) → P (suc k) w (walkOn z s (suc k) f w)
+      go (on m e) r = rw (run-took k f w m e) (step k w m (walkOn z s k f m) e (r m))
+      go (off h) r = rw (run-stays (suc k) f w h) (base (suc k) w (inr h))
+
+  -- whatever the fuel,
   pub run-holds : (f : List ℕ) (P : Walk → X → Type 0) → ((w : Walk) → P w (z w)) → ((w m : Walk) (x : X) → stepOf f w ≡ Took m → P m x → P w (s w m x))
       → (k : ℕ) (w : Walk) → P w (walkOn z s k f w)
-  unfolding walkOn
-  run-holds f P base step zero w = base w
-  run-holds f P base step (suc k) w = go (goes f w) (run-holds f P base step k)
-    where
-      go : Goes f w → ((m : Walk) → P m (walkOn z s k f m)) → P w (walkOn z s (suc k) f w)
-      go (on m e) r = rw (run-took k f w m e) (step w m (walkOn z s k f m) e (r m))
-      go (off h) r = rw (run-stays (suc k) f w h) (base w)
+  run-holds f P base step = run-along f (λ k. P) (λ k w h. base w) (λ k w m x. step w m x)
+
+  -- and with enough of it, where the run stops only since no block is taken
+  pub run-stops : (f : List ℕ) (P : Walk → X → Type 0) → ((w : Walk) → stays (stepOf f w) → P w (z w)) → ((w m : Walk) (x : X) → stepOf f w ≡ Took m → P m x → P w (s w m x))
+      → (k : ℕ) (w : Walk) → left f w < k → P w (walkOn z s k f w)
+  run-stops f P base step =
+      run-along f (λ k w x. left f w < k → P w x) (λ k w. ⊎-elim (λ e h. absurd (omega arith)) (λ q h. base w q))
+      (λ k w m x e r h. let t = taken f w m e .less in step w m x e (r (omega arith)))
 
   -- any fuel that is enough is as good as another
   run-fuel : (k j : ℕ) (f : List ℕ) (w : Walk) → left f w < k → left f w < j → walkOn z s k f w ≡ walkOn z s j f w
-  run-fuel zero j f w p q = absurd (omega arith)
-  run-fuel (suc k) zero f w p q = absurd (omega arith)
-  run-fuel (suc k) (suc j) f w p q = go (goes f w) (λ m. run-fuel k j f m)
+  run-fuel k j f w p q = run-stops f (λ w x. (j : ℕ) → left f w < j → x ≡ walkOn z s j f w) (λ w h j q. sym (run-stays j f w h)) step k w p j q
     where
-      go : Goes f w → ((m : Walk) → left f m < k → left f m < j → walkOn z s k f m ≡ walkOn z s j f m) → walkOn z s (suc k) f w ≡ walkOn z s (suc j) f w
-      go (on m e) r = let t = taken f w m e .less in run-took k f w m e ∙ ap (s w m) (r m (omega arith) (omega arith)) ∙ sym (run-took j f w m e)
-      go (off h) r = run-stays (suc k) f w h ∙ sym (run-stays (suc j) f w h)
+      step : (w m : Walk) (x : X) → stepOf f w ≡ Took m → ((j : ℕ) → left f m < j → x ≡ walkOn z s j f m) → (j : ℕ) → left f w < j → s w m x ≡ walkOn z s j f w
+      step w m x e r zero q = absurd (omega arith)
+      step w m x e r (suc j) q = let t = taken f w m e .less in ap (s w m) (r j (omega arith)) ∙ sym (run-took j f w m e)
 
   pub run-step : (k : ℕ) (f : List ℕ) (w m : Walk) → left f w < k → stepOf f w ≡ Took m → walkOn z s k f w ≡ s w m (walkOn z s k f m)
   run-step zero f w m h e = absurd (omega arith)
@@ -283,16 +299,14 @@ module _ {X : Type 0} (z : Walk → X) (s : Walk → Walk → X → X) where
 
 -- with enough fuel, the run stops where no block is taken
 pub last-off : (k : ℕ) (f : List ℕ) (w : Walk) → left f w < k → stays (stepOf f (last k f w))
-last-off zero f w h = absurd (omega arith)
-last-off (suc k) f w h = go (goes f w) (λ m. last-off k f m)
-  where
-    go : Goes f w → ((m : Walk) → left f m < k → stays (stepOf f (last k f m))) → stays (stepOf f (last (suc k) f w))
-    go (on m e) r = let t = taken f w m e .less in rw (run-took (λ v. v) (λ v n r. r) k f w m e) (r m (omega arith))
-    go (off s) r = rw (run-stays (λ v. v) (λ v n r. r) (suc k) f w s) s
+last-off k f = run-stops (λ v. v) (λ v n r. r) f (λ w v. stays (stepOf f v)) (λ w h. h) (λ w m v e r. r) k
+
+-- what each step keeps holds where the run stops
+pub last-holds : (f : List ℕ) (P : Walk → Type 0) → ((w m : Walk) → stepOf f w ≡ Took m → P w → P m) → (k : ℕ) (w : Walk) → P w → P (last k f w)
+last-holds f P step = run-holds (λ v. v) (λ v n r. r) f (λ w v. P w → P v) (λ w h. h) (λ w m v e r h. r (step w m e h))
 
 pub last-within : (k : ℕ) (f : List ℕ) (w : Walk) → w .at ≤ length f → last k f w .at ≤ length f
-last-within k f =
-    run-holds (λ v. v) (λ v n r. r) f (λ w v. w .at ≤ length f → v .at ≤ length f) (λ w h. h) (λ w m v e r h. r (taken f w m e .within)) k
+last-within k f = last-holds f (λ w. w .at ≤ length f) (λ w m e h. taken f w m e .within) k
 
 -- the fuel of a reading is enough from any walk
 pub enough : (f : List ℕ) (w : Walk) → left f w < fuel f

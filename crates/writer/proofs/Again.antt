@@ -7,7 +7,7 @@ use mathlib.Core.List.{List, _++_}
 use lib.ListN.{length, take}
 use Rattle.le.specs.Le.{part, patch}
 use lib.Seq.{length-take-le, take-take}
-use Rattle.le.proofs.Laws.{length-part, length-patch, part-patch}
+use Rattle.le.proofs.Laws.{length-part, part-take, length-patch, part-patch}
 use Rattle.walk.specs.declared.due.Due.{Due}
 use Rattle.walk.specs.declared.due.Due.the-variants as due
 use Rattle.walk.specs.declared.due.Walk.{Walk}
@@ -22,7 +22,7 @@ use Rattle.writer.specs.Put.{checked, Outcome, put}
 use Rattle.writer.specs.Trips.{Fits, storedAs, blockIn, FromFile, SameBytes, SameBlock}
 use Rattle.writer.proofs.Agreeing.{put-passed, taking}
 use Rattle.writer.proofs.Ahead.{stops-next}
-use Rattle.writer.proofs.Bytes.{part-take, front-part, front-patch}
+use Rattle.writer.proofs.Bytes.{front-part, front-patch}
 use Rattle.writer.proofs.EachKind.{long, size-is, finds, says-in, kind-in, fits-in, bytes-in, block-front}
 use Rattle.writer.proofs.Places.{cut-behind}
 
@@ -35,10 +35,10 @@ module _ (f : List ℕ) (w m : Walk) (room : List ℕ) (from : FromFile f w m ro
   cut-same d =
       let place = cutPlace (w .count .cut) in
       let h = cut-behind (written w room) w (from .agree .stops) d in
-      part-take 256 f (w .at + sizeOf w) place (omega arith)
-      ∙ sym (part-take 256 f (w .at) place h)
+      part-take 256 f place (w .at + sizeOf w) (omega arith)
+      ∙ sym (part-take 256 f place (w .at) h)
       ∙ ap (λ (l : List ℕ). part 256 l place) (sym (from .same))
-      ∙ part-take 256 room (w .at) place h
+      ∙ part-take 256 room place (w .at) h
 
   says : saysOf block room w ≡ step.Took m
   unfolding block

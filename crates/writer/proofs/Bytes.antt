@@ -5,13 +5,9 @@ use mathlib.Core.Path.{_≡_, sym, ap, _∙_}
 use mathlib.Core.List.{List, _++_}
 use native.Mathlib.Nat.{add-zero}
 use lib.ListN.{length, take, drop, length-append}
-use lib.Seq.{take-at, take-all, take-add, length-take-le, getD-take}
+use lib.Seq.{take-at, take-all, take-add, length-take-le}
 use Rattle.le.specs.Le.{part, patch}
-use Rattle.le.proofs.Laws.{part-same, part-past, part-in, part-all, part-here}
-
--- a part of a list's front is that part of the list
-pub part-take : (n : ℕ) (f : List ℕ) (k at : ℕ) → at + n ≤ k → part n (take k f) at ≡ part n f at
-part-take n f k at h = part-same n (take k f) f at at (λ i j. getD-take k f (at + i) 0 (omega arith))
+use Rattle.le.proofs.Laws.{part-past, part-in, part-take, part-all, part-here}
 
 -- a list's front, and what follows it
 pub front-part : (n : ℕ) (f : List ℕ) (at : ℕ) → at + n ≤ length f → take at f ++ part n f at ≡ take (at + n) f
@@ -35,7 +31,7 @@ module _ (room : List ℕ) (at : ℕ) (bs : List ℕ) (n : ℕ) (long : length b
   pub front-before : (k place : ℕ) → place + k ≤ at → part k (take at room ++ bs) place ≡ part k room place
   front-before k place h =
       let l = length-take-le at room within in
-      part-in k (take at room) bs place (omega arith) ∙ part-take k room at place h
+      part-in k (take at room) bs place (omega arith) ∙ part-take k room place at h
 
   -- what is written once the bytes are stored
   pub front-patch : take (at + n) (patch room at bs) ≡ take at room ++ bs

@@ -1,5 +1,5 @@
 -- The blocks that reading a file accepts, put one after the other, give the file's bytes again. Assumes nothing.
-use Prim.Native.Nat.{ℕ, zero, suc, _≤_}
+use Prim.Native.Nat.{ℕ, _≤_}
 use native.Mathlib.Omega.{arith}
 use mathlib.Core.Path.{_≡_, refl, ap, subst, _∙_}
 use mathlib.Core.List.{List}
@@ -8,23 +8,14 @@ use Rattle.le.specs.Le.{Bytes}
 use Rattle.walk.specs.declared.due.Walk.{Walk}
 use Rattle.reading.specs.declared.step.Step.the-variants.{Took}
 use Rattle.walk.specs.Due.{atStart}
-use Rattle.reading.specs.Reading.{walkOn, last, fuel, stop}
+use Rattle.reading.specs.Reading.{last, fuel, stop}
 use Rattle.reading.specs.Step.{stepOf}
-use Rattle.reading.proofs.Run.{Goes, on, off, goes, taken, run-took, run-stays}
+use Rattle.reading.proofs.Run.{taken, run-holds}
 use Rattle.writer.specs.Agree.{written, Agrees}
 use Rattle.writer.specs.Put.{Outcome, put}
 use Rattle.writer.specs.Trips.{blockIn, FromFile, Copies, begun, next, CopyOf}
 use Rattle.writer.proofs.Again.{same-bytes, same-length}
 use Rattle.writer.proofs.Runs.{start}
-
-onward : (k : ℕ) (f : List ℕ) (w : Walk) → w .at ≤ last k f w .at
-unfolding walkOn
-onward zero f w = omega arith
-onward (suc k) f w = go (goes f w) (λ m. onward k f m)
-  where
-    go : Goes f w → ((m : Walk) → m .at ≤ last k f m .at) → w .at ≤ last (suc k) f w .at
-    go (on m e) r = let t = taken f w m e .end in let i = r m in rw (run-took (λ v. v) (λ v n r. r) k f w m e) (omega arith)
-    go (off q) r = rw (run-stays (λ v. v) (λ v n r. r) (suc k) f w q) (omega arith)
 
 module _ (f room : List ℕ) (bytes : Bytes f) where
   -- a copy up to a walk, and what it holds
@@ -53,20 +44,14 @@ module _ (f room : List ℕ) (bytes : Bytes f) where
         long = same-length f w m held from ∙ l;
       }
 
-  copy-on : (k : ℕ) (w : Walk) (held : List ℕ) → Copied w held → last k f w .at ≤ length room → CopiedTo (last k f w)
-  unfolding walkOn
-  copy-on zero w held c h = record { held = held; is = c }
-  copy-on (suc k) w held c h = go (goes f w) (λ m. copy-on k m)
-    where
-      go : Goes f w → ((m : Walk) (x : List ℕ) → Copied m x → last k f m .at ≤ length room → CopiedTo (last k f m)) → CopiedTo (last (suc k) f w)
-      go (on m e) r =
-          let q = run-took (λ v. v) (λ v n r. r) k f w m e in
-          let l : last k f m .at ≤ length room = rw q at h in
-          let o = onward k f m in
-          rw q (r m _ (one-more w m held c e (omega arith)) l)
-      go (off q) r = rw (run-stays (λ v. v) (λ v n r. r) (suc k) f w q) (record { held = held; is = c })
+  -- and so on to the walk at which a run stops, which goes on and never back
+  copy-on : (k : ℕ) (w : Walk) → (w .at ≤ last k f w .at) × ((held : List ℕ) → Copied w held → last k f w .at ≤ length room → CopiedTo (last k f w))
+  copy-on =
+      run-holds (λ v. v) (λ v n r. r) f (λ w v. (w .at ≤ v .at) × ((held : List ℕ) → Copied w held → v .at ≤ length room → CopiedTo v))
+      (λ w. (omega arith, λ held c h. record { held = held; is = c }))
+      (λ w m v e r. let t = taken f w m e .end in let o = r .0 in (omega arith, λ held c h. r .1 _ (one-more w m held c e (omega arith)) h))
 
   pub copy-of : stop f .at ≤ length room → CopyOf f room
   copy-of h =
-      let c = copy-on (fuel f) atStart room (record { copies = begun; agree = start room; same = refl; long = refl }) h in
+      let c = copy-on (fuel f) atStart .1 room (record { copies = begun; agree = start room; same = refl; long = refl }) h in
       record { held = c .held; copies = c .is .copies; agree = c .is .agree; bytes = c .is .same }

@@ -8,9 +8,7 @@ use mathlib.Core.List.{List}
 use borrow.Author.Tests.{eq-eqb, eqb-true}
 use lib.ListN.{length, take}
 use Rattle.le.specs.Le.{part, Bytes}
-use Rattle.le.proofs.Laws.{length-part, part-bytes}
-use Rattle.rules.specs.declared.check.Check.{Check}
-use Rattle.rules.specs.declared.check.Check.the-variants.{Fine, Broken}
+use Rattle.le.proofs.Laws.{length-part, part-take, part-bytes}
 use Rattle.cut.specs.Cut.{cutOf, cutAt}
 use Rattle.generic.specs.Generic.{genericOf, genericAt}
 use Rattle.moment.specs.Moment.{momentOf, momentAt}
@@ -27,11 +25,10 @@ use Rattle.walk.specs.declared.due.Due.{Due}
 use Rattle.walk.specs.declared.due.Due.the-variants as due
 use Rattle.walk.specs.declared.due.Walk.{Walk}
 use Rattle.walk.specs.Due.{sizeAt, isEnd, cutPlace}
-use Rattle.reading.specs.Step.{settle, takeGeneric, takeSite, takeTask, takeCut, takeRadial, takeMoment, takeData, blockAt}
-use Rattle.reading.proofs.Run.{Plain, took, refused}
+use Rattle.reading.specs.Step.{takeGeneric, takeSite, takeTask, takeCut, takeRadial, takeMoment, takeData, blockAt}
+use Rattle.reading.proofs.Run.{Plain, took, settle-plain}
 use Rattle.writer.specs.Block.{Block, generic, site, task, cut, radial, moment, «data», kindOf, saysOf, fitsOf, lengthOf, bytesOf}
 use Rattle.writer.specs.Trips.{Fits, blockIn}
-use Rattle.writer.proofs.Bytes.{part-take}
 
 pub going : (b : Block) → isEnd (kindOf b) ≡ false
 unfolding isEnd
@@ -74,11 +71,6 @@ size-if (moment r) w e = refl
 size-if («data» bs) w e = eq-eqb (length bs) (w .rest .length) e
 
 -- the reader takes or refuses it
-settle-plain : (v : Check) (at : ℕ) (n : Walk) → Plain (settle v at n)
-unfolding settle
-settle-plain Fine at n = took n refl
-settle-plain (Broken a b) at n = refused a (at + b) refl
-
 pub says-plain : (b : Block) (room : List ℕ) (w : Walk) → Plain (saysOf b room w)
 unfolding takeGeneric takeSite takeTask takeCut takeRadial takeMoment takeData
 says-plain (generic r) room w = settle-plain _ _ _
@@ -153,11 +145,11 @@ bytes-in due.Nothing f w bs i = absurd (let z : _≡_ {A = ℕ} 0 1 = cc in omeg
 -- a file's front up to its end has the same block
 pub block-front : (d : Due) (f : List ℕ) (w : Walk) → blockIn d (take (w .at + sizeAt d (w .rest .length)) f) w ≡ blockIn d f w
 unfolding sizeAt genericAt siteAt taskAt cutAt radialAt momentAt
-block-front due.Generic f w = ap (λ (l : List ℕ). generic (genericOf l)) (part-take 32 f (w .at + 32) (w .at) (omega arith))
-block-front due.Site f w = ap (λ (l : List ℕ). site (siteOf l)) (part-take 128 f (w .at + 128) (w .at) (omega arith))
-block-front due.Task f w = ap (λ (l : List ℕ). task (taskOf l)) (part-take 256 f (w .at + 256) (w .at) (omega arith))
-block-front due.Cut f w = ap (λ (l : List ℕ). cut (cutOf l)) (part-take 256 f (w .at + 256) (w .at) (omega arith))
-block-front due.Radial f w = ap (λ (l : List ℕ). radial (radialOf l)) (part-take 64 f (w .at + 64) (w .at) (omega arith))
-block-front due.Moment f w = ap (λ (l : List ℕ). moment (momentOf l)) (part-take 32 f (w .at + 32) (w .at) (omega arith))
-block-front due.Data f w = ap «data» (part-take (w .rest .length) f (w .at + w .rest .length) (w .at) (omega arith))
+block-front due.Generic f w = ap (λ (l : List ℕ). generic (genericOf l)) (part-take 32 f (w .at) (w .at + 32) (omega arith))
+block-front due.Site f w = ap (λ (l : List ℕ). site (siteOf l)) (part-take 128 f (w .at) (w .at + 128) (omega arith))
+block-front due.Task f w = ap (λ (l : List ℕ). task (taskOf l)) (part-take 256 f (w .at) (w .at + 256) (omega arith))
+block-front due.Cut f w = ap (λ (l : List ℕ). cut (cutOf l)) (part-take 256 f (w .at) (w .at + 256) (omega arith))
+block-front due.Radial f w = ap (λ (l : List ℕ). radial (radialOf l)) (part-take 64 f (w .at) (w .at + 64) (omega arith))
+block-front due.Moment f w = ap (λ (l : List ℕ). moment (momentOf l)) (part-take 32 f (w .at) (w .at + 32) (omega arith))
+block-front due.Data f w = ap «data» (part-take (w .rest .length) f (w .at) (w .at + w .rest .length) (omega arith))
 block-front due.Nothing f w = refl

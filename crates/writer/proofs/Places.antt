@@ -1,5 +1,5 @@
--- Where a walk stands from the start on: past its cuts' blocks where a radial is due. Assumes nothing.
-use Prim.Native.Nat.{ℕ, zero, suc, _+_, _*_, _≤_}
+-- Where a walk stands from the start on: past its cuts' blocks where a radial is due. Each step keeps it. Assumes nothing.
+use Prim.Native.Nat.{ℕ, _+_, _*_, _≤_}
 use native.Mathlib.Omega.{arith}
 use mathlib.Core.Path.{_≡_, refl, subst}
 use mathlib.Core.Bool.{Bool, true, false}
@@ -14,8 +14,8 @@ use Rattle.reading.specs.declared.step.Step.the-variants.{Took}
 use Rattle.walk.specs.Due.{dueIf, atStart, cutPlace}
 use Rattle.walk.specs.After.{afterCut, afterData, afterDataIf, closesCut}
 use Rattle.reading.specs.Step.{takeGeneric, takeSite, takeTask, takeCut, takeRadial, takeMoment, takeData, blockAt}
-use Rattle.reading.specs.Reading.{walkOn, last, fuel, stop}
-use Rattle.reading.proofs.Run.{settle-took, took-inj, taken, Goes, on, off, goes, run-took, run-stays}
+use Rattle.reading.specs.Reading.{fuel, stop}
+use Rattle.reading.proofs.Run.{settle-took, took-inj, taken, last-holds}
 
 -- the cuts' blocks: those behind where radials come, and those still to come
 record Behind (w : Walk) : Type 0 where
@@ -62,20 +62,11 @@ far-on due.Moment p w m h e = subst (λ (x : Walk). Far (x .due) x) (settle-took
 far-on due.Data p w m h e = subst (λ (x : Walk). Far (x .due) x) (took-inj _ m e) (far-data (ltb 0 (w .rest .todo)) (closesCut w) (ltb (w .count .cut) (w .plan .cuts)) w (w .at + w .rest .length) refl (omega arith) h)
 far-on due.Nothing p w m h e = absurd (let z : _≡_ {A = ℕ} 0 1 = cc in omega arith)
 
-far-last : (k : ℕ) (f : List ℕ) (w : Walk) → Far (w .due) w → Far (last k f w .due) (last k f w)
-unfolding walkOn
-far-last zero f w h = h
-far-last (suc k) f w h = go (goes f w) (λ m. far-last k f m)
-  where
-    go : Goes f w → ((m : Walk) → Far (m .due) m → Far (last k f m .due) (last k f m)) → Far (last (suc k) f w .due) (last (suc k) f w)
-    go (on m e) r = rw (run-took (λ v. v) (λ v n r. r) k f w m e) (r m (far-on (w .due) _ w m h (taken f w m e .block)))
-    go (off q) r = rw (run-stays (λ v. v) (λ v n r. r) (suc k) f w q) h
-
 -- where a radial is due, its cut's block lies in what was read
 pub cut-behind : (f : List ℕ) (w : Walk) → stop f ≡ w → w .due ≡ due.Radial → cutPlace (w .count .cut) + 256 ≤ w .at
 unfolding Far
 cut-behind f w e d =
-    let h : Far (w .due) w = subst (λ (x : Walk). Far (x .due) x) e (far-last (fuel f) f atStart tt) in
+    let h : Far (w .due) w = subst (λ (x : Walk). Far (x .due) x) e (last-holds f (λ x. Far (x .due) x) (λ v m q h. far-on (v .due) _ v m h (taken f v m q .block)) (fuel f) atStart tt) in
     let b : Behind w = subst (λ (x : Due). Far x w) d h in
     let o = b .one in
     let c = b .cut in

@@ -1,19 +1,16 @@
 -- Where b ends before the data do, taking as many as the header says takes all that is left. Assumes nothing.
 use mathlib.Core.Path.{_≡_, sym, _∙_}
-use mathlib.Core.List.{List, []}
-use Prim.Native.Nat.{ℕ, _+_, _-_, _≤_}
+use mathlib.Core.List.{[]}
+use Prim.Native.Nat.{_+_, _-_, _≤_}
 use native.Mathlib.Omega.{arith}
 use borrow.Author.Needs.{needs}
 use borrow.Author.Tests.{leb-true, leb-false}
-use lib.ListN.{length, take, drop, length-drop, drop-of-length-le}
-use lib.Seq.{take-all, take-nil, drop-length}
+use lib.ListN.{length, drop, drop-of-length-le}
+use lib.Seq.{take-nil, drop-length}
+use Rattle.le.proofs.Laws.{to-end}
 use Rattle.moments.specs.Moments.{dataAt}
 use Rattle.moments.proofs.data.Statement.{statement}
 use Rattle.moments.proofs.data.Tie as tie
-
--- what reaches to the end of a list is all that is left of it
-to-end : (l : List ℕ) (a n : ℕ) → length l ≤ a + n → take n (drop a l) ≡ drop a l
-to-end l a n h = take-all n (drop a l) (simp length-drop (omega arith))
 
 -- what the test says: the header's bytes are there
 fits : (c : tie.Then1) → c .before .before .before .args .at + 32 ≤ length (c .before .before .before .args .b .now)

@@ -1,13 +1,14 @@
 -- The loop's walks lead to the same whole radial, or stop. Assumes nothing.
 use mathlib.Core.Path.{_≡_, refl, sym, subst⁻¹, _∙_}
+use mathlib.Core.Bool.{true, false}
 use Prim.Native.Nat.{_≤_}
 use borrow.Author.Needs.{needs}
 use lib.ListN.{length}
 use Rattle.reading.specs.declared.step.Step.the-variants.{Took}
 use Rattle.reading.specs.Step.{stepOf}
-use Rattle.reading.specs.Reading.{advanceOf}
+use Rattle.reading.specs.Reading.{advanceIf, advanceOf}
 use Rattle.reading.proofs.Run.{left, taken, stays}
-use Rattle.reading.proofs.Loops.{advance-on, advance-whole, advance-stops}
+use Rattle.reading.proofs.Loops.{advance-step, advance-stops}
 use Rattle.reading.proofs.advance_in.Statement.{statement}
 use Rattle.reading.proofs.advance_in.Tie as tie
 
@@ -21,10 +22,11 @@ loop-holds : tie.Need-loop-holds Inv-loop μ-loop
 loop-holds c = (c .before .pre, refl)
 
 returns : tie.Need-returns Inv-loop μ-loop
+unfolding advanceIf
 returns c =
     let l = c .before .before .before .before .before .before in
     let e = sym (c .before .before .before .before .before .step-at .ensures) ∙ c .before .before .before .n .given .1 in
-    sym (l .loop .inv .1 ∙ advance-whole (l .before .before .args .file .now) (l .loop .w) (c .before .before .before .n .given .0 .0) e (sym (c .before .ends-radial .ensures) ∙ c .if1 .taken))
+    sym (l .loop .inv .1 ∙ advance-step (l .before .before .args .file .now) (l .loop .w) (c .before .before .before .n .given .0 .0) true e (sym (c .before .ends-radial .ensures) ∙ c .if1 .taken))
 
 loop-less : tie.Need-loop-less Inv-loop μ-loop
 loop-less c =
@@ -33,12 +35,13 @@ loop-less c =
     taken (l .before .before .args .file .now) (l .loop .w) (c .before .before .before .n .given .0 .0) e .less
 
 loop-again : tie.Need-loop-again Inv-loop μ-loop
+unfolding advanceIf
 loop-again c =
     let l = c .before .before .before .before .before .before in
     let f = l .before .before .args .file .now in
     let n = c .before .before .before .n .given .0 .0 in
     let e : stepOf f (l .loop .w) ≡ Took n = sym (c .before .before .before .before .before .step-at .ensures) ∙ c .before .before .before .n .given .1 in
-    (taken f (l .loop .w) n e .within, l .loop .inv .1 ∙ advance-on f (l .loop .w) n e (sym (c .before .ends-radial .ensures) ∙ c .if1 .left))
+    (taken f (l .loop .w) n e .within, l .loop .inv .1 ∙ advance-step f (l .loop .w) n false e (sym (c .before .ends-radial .ensures) ∙ c .if1 .left))
 
 returns-2 : tie.Need-returns-2 Inv-loop μ-loop
 unfolding stays

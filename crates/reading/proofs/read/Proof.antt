@@ -8,7 +8,7 @@ use Rattle.reading.specs.declared.step.Step.the-variants.{Took, Open, Re
 use Rattle.reading.specs.Step.{stepOf}
 use Rattle.reading.specs.Reading.{stop, last, fuel, verdictTold, endingTold}
 use Rattle.reading.proofs.Run.{left, taken, stays}
-use Rattle.reading.proofs.Loops.{read-on}
+use Rattle.reading.proofs.Loops.{last-step}
 use Rattle.reading.proofs.Counts.{tells}
 use Rattle.reading.proofs.read.Statement.{statement}
 use Rattle.reading.proofs.read.Tie as tie
@@ -33,7 +33,7 @@ loop-again c =
     let f = l .before .before .before .args .file .now in
     let n = c .before .n .given .0 .0 in
     let e : stepOf f (l .loop .w) ≡ Took n = sym (c .before .before .before .step-at .ensures) ∙ c .before .n .given .1 in
-    (taken f (l .loop .w) n e .within, read-on f (l .loop .w) n (l .loop .inv .1) e)
+    (taken f (l .loop .w) n e .within, l .loop .inv .1 ∙ last-step f (l .loop .w) n e)
 
 returns : tie.Need-returns Inv-loop μ-loop
 unfolding verdictTold endingTold stays
