@@ -1,7 +1,8 @@
 -- Each telling of an answer is one-to-one: the answer can be found again from it, so two answers that are told alike are
 -- one. Assumes nothing.
-use mathlib.Core.Path.{_≡_, refl, sym, ap, _∙_}
+use mathlib.Core.Path.{_≡_, refl}
 use mathlib.Core.List.{List, [], _∷_}
+use mathlib.Mathlib.Logic.Function.Defs.{LeftInverse·injective}
 use Prim.Native.Nat.{ℕ}
 use lib.ListN.{getD}
 use lib.Ieee.{Float}
@@ -11,9 +12,6 @@ use Rattle.gates.specs.declared.RowAnswer.{RowAnswer}
 use Rattle.gates.specs.declared.RowAnswer.the-variants.{Filled, Refused}
 use Rattle.gates.specs.Gates.{toldGate}
 use Rattle.gates.specs.Rows.{toldRow}
-
-pub one-to-one : {A B : Type 0} (told : A → B) (found : B → A) → ((a : A) → found (told a) ≡ a) → (a b : A) → told a ≡ told b → a ≡ b
-one-to-one told found back a b e = sym (back a) ∙ ap found e ∙ back b
 
 gateFound : ℕ × List Float → Gate
 gateFound t = go (t .1)
@@ -32,7 +30,7 @@ gate-back Reserved = refl
 gate-back (Value x) = refl
 
 pub told-gate-one : (g h : Gate) → toldGate g ≡ toldGate h → g ≡ h
-told-gate-one = one-to-one toldGate gateFound gate-back
+told-gate-one = LeftInverse·injective gateFound toldGate gate-back
 
 rowFound : ℕ × List ℕ → RowAnswer
 rowFound t = go (t .1)
@@ -47,4 +45,4 @@ row-back (Filled n) = refl
 row-back (Refused number) = refl
 
 pub told-row-one : (r s : RowAnswer) → toldRow r ≡ toldRow s → r ≡ s
-told-row-one = one-to-one toldRow rowFound row-back
+told-row-one = LeftInverse·injective rowFound toldRow row-back

@@ -5,6 +5,7 @@ use native.Mathlib.Omega.{arith}
 use mathlib.Core.Path.{_≡_, refl, sym, ap, _∙_}
 use mathlib.Core.Bool.{Bool, true, false, _&&_}
 use mathlib.Core.List.{List}
+use mathlib.Mathlib.Logic.Function.Defs.{LeftInverse·injective}
 use lib.Dec.{eqb, leb}
 use lib.ListN.{length}
 use lib.Seq.{length-take-le}
@@ -45,7 +46,7 @@ ranked due.Data = refl
 ranked due.Nothing = refl
 
 pub kind-is : (a b : Due) → sameKind a b ≡ true → a ≡ b
-kind-is a b e = sym (ranked a) ∙ ap dueAt (eqb-true (rankOf a) (rankOf b) e) ∙ ranked b
+kind-is a b e = LeftInverse·injective dueAt rankOf ranked a b (eqb-true (rankOf a) (rankOf b) e)
 
 pub kind-if : (a b : Due) → a ≡ b → sameKind a b ≡ true
 kind-if a b e = eq-eqb (rankOf a) (rankOf b) (ap rankOf e)
