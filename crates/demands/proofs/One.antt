@@ -10,9 +10,10 @@ use lib.IntN.{ℤ}
 use lib.ListN.{length}
 use Rattle.le.specs.Le.{stored}
 use Rattle.le.proofs.Laws.{stored-no}
+use Rattle.gates.specs.declared.RowAnswer.{RowAnswer}
 use Rattle.gates.specs.declared.RowAnswer.the-variants as row
 use Rattle.gates.specs.Codes.{codesOf}
-use Rattle.gates.specs.Rows.{rooms}
+use Rattle.gates.specs.Rows.{toldRow, rooms, Rowed}
 use Rattle.gates.proofs.Rows.{row-one}
 use Rattle.gates.proofs.Tellings.{told-gate-one}
 use Rattle.moment.specs.Moment.{momentAt}
@@ -32,8 +33,9 @@ use Rattle.ask.specs.declared.places.Where.{Where}
 use Rattle.ask.specs.declared.places.Where.the-variants.{At, NoRadial, NoMoment}
 use Rattle.ask.specs.declared.tallies.Tally.{Tally}
 use Rattle.ask.specs.declared.tallies.TallyAnswer.the-variants as tally
-use Rattle.ask.specs.Answers.{radialTold, momentTold, dataTold, gateIn, gateTold, RowTold}
+use Rattle.ask.specs.Answers.{radialTold, momentTold, dataTold, codingOf, gateIn, gateTold, Unfilled, RowTold}
 use Rattle.ask.specs.Places.{inFound}
+use Rattle.ask.specs.Tallies.{tallyTold}
 use Rattle.lent.specs.Lending.{lentOf}
 use Rattle.index.specs.declared.Answer.{Answer}
 use Rattle.index.specs.declared.Answer.the-variants as index
@@ -47,7 +49,7 @@ use Rattle.writer.specs.Block.{Block, kindOf, saysOf, fitsOf, lengthOf, bytesOf
 use Rattle.writer.specs.Put.{lastTests, checked, answerTo, outcome, Outcome, put, putOn}
 use Rattle.writer.proofs.Same.{tests-agreement}
 use Rattle.writer.proofs.Told.{puts-same}
-use Rattle.demands.specs.One.{Ending, is-complete, is-open, is-refused, Questions, WriterRefuses, Unchanged, Determined, DemandOne}
+use Rattle.demands.specs.One.{Ending, is-complete, is-open, is-refused, Questions, Row, Tallied, Indexed, WriterRefuses, Unchanged, Determined, DemandOne}
 
 -- ---- every file has an ending
 
@@ -80,6 +82,26 @@ questions f n t =
       gate-31 = λ i e. rw e;
       gate-32 = λ i s p e h. ap (λ (a : Where). gateTold f a i) e ∙ past-the-gates f s p i h;
     }
+
+rows : (f : List ℕ) (at : Where) (k k′ : List ℕ) (h h′ : List ℤ) (r : RowAnswer) → Row f at k k′ h h′ r
+unfolding RowTold
+rows f at k k′ h h′ r =
+    record {
+      row-30 = λ e x. let u : Unfilled 30 k h r k′ h′ = rw e at x in u .answer;
+      row-31 = λ e x. let u : Unfilled 31 k h r k′ h′ = rw e at x in u .answer;
+      row-33 = λ s p e short x.
+          let codes = codesOf (momentAt (bytesOf f s) p .«bin_length») (dataAt (bytesOf f s) p) in
+          let u : Rowed (codingOf (momentAt (bytesOf f s) p)) codes k h r k′ h′ = rw e at x in
+          rw short at (u .answer);
+    }
+
+tallies : (f : List ℕ) (cut t : ℕ) → Tallied f cut t
+unfolding tallyTold
+tallies f cut t = record { tally-30 = λ e. rw e; tally-31 = λ e z. rw (e, z) }
+
+indexes : (f : List ℕ) (room : ℕ) → Indexed f room
+unfolding answerOf
+indexes f room = record { index-36 = λ e. rw e; index-33 = λ e l. rw (e, lt-leb (length (indexOf f)) room l) }
 
 put-yes : (b : Block) (w : Walk) (room : List ℕ) → agrees w room ≡ true → put b w room ≡ putOn b w room
 unfolding put
@@ -215,6 +237,9 @@ demand-one =
     record {
       endings = ends;
       questions = questions;
+      rows = rows;
+      tallies = tallies;
+      indexes = indexes;
       writer = writer-refuses;
       unchanged = unchanged;
       determined = determined;

@@ -2,7 +2,7 @@
 use mathlib.Core.Path.{_≡_, refl, ap}
 use Prim.Native.Nat.{ℕ, zero, suc, _<_}
 use native.Mathlib.Omega.{arith}
-use Rattle.rules.proofs.Judged.{all-hold, fine-if}
+use Rattle.rules.proofs.Judged.{all-hold, fine-if, first-decides, decided-first}
 use Rattle.cut.proofs.Trips as cut
 use Rattle.generic.proofs.Trips as generic
 use Rattle.moment.proofs.Trips as moment
@@ -25,7 +25,7 @@ use Rattle.writer.proofs.Runs.{run-back}
 use Rattle.demands.specs.Two.{RefusedExactly, WholeRadials, Codes, Trips, Writing, IndexRight, DemandTwo}
 
 refused-exactly : RefusedExactly
-refused-exactly = record { fine = all-hold; holds = fine-if }
+refused-exactly = record { fine = all-hold; holds = fine-if; refused = decided-first; first = λ rules n p f. first-decides f }
 
 whole-radials : WholeRadials
 whole-radials = record { radials = all-whole; moments = sound }

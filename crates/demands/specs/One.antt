@@ -15,7 +15,7 @@ use Rattle.gates.specs.declared.RowAnswer.{RowAnswer}
 use Rattle.gates.specs.declared.RowAnswer.the-variants as row
 use Rattle.gates.specs.Codes.{codesOf}
 use Rattle.gates.specs.Gates.{toldGate}
-use Rattle.gates.specs.Rows.{Rowed}
+use Rattle.gates.specs.Rows.{toldRow, rooms, Rowed}
 use Rattle.moment.specs.Moment.{momentAt}
 use Rattle.moments.specs.Moments.{dataAt}
 use Rattle.walk.specs.declared.due.Walk.{Walk}
@@ -25,7 +25,7 @@ use Rattle.reading.specs.declared.Reading.{Reading}
 use Rattle.reading.specs.declared.Stretch.{Stretch}
 use Rattle.reading.specs.declared.Verdict.{Verdict}
 use Rattle.reading.specs.declared.step.Step.the-variants as step
-use Rattle.reading.specs.Reading.{Tells, verdictTold, stretches, nth, told, bytesOf}
+use Rattle.reading.specs.Reading.{Tells, verdictTold, stop, stretches, nth, told, bytesOf}
 use Rattle.ask.specs.declared.answers.GateAnswer.the-variants as gate
 use Rattle.ask.specs.declared.places.Where.{Where}
 use Rattle.ask.specs.declared.places.Where.the-variants.{At, NoRadial, NoMoment}
@@ -34,10 +34,12 @@ use Rattle.ask.specs.declared.tallies.TallyAnswer.the-variants as tally
 use Rattle.ask.specs.Answers.{radialOfFile, momentTold, dataTold, RowTold}
 use Rattle.ask.specs.Growth.{gateAsked}
 use Rattle.ask.specs.Places.{whereIs}
+use Rattle.ask.specs.Tallies.{tallyOf, cutAccepted, tallyAnswer}
 use Rattle.lent.specs.Lending.{lentOf}
 use Rattle.index.specs.declared.Answer.{Answer}
 use Rattle.index.specs.declared.Answer.the-variants as index
-use Rattle.index.specs.Answer.{Writes}
+use Rattle.index.specs.Answer.{complete, answerOf, Writes}
+use Rattle.index.specs.Index.{indexOf}
 use Rattle.writer.specs.declared.order.Answer.the-variants.{Refused}
 use Rattle.writer.specs.declared.order.Put.{Put}
 use Rattle.writer.specs.Agree.{sameKind, agrees, TestsAgreement}
@@ -61,6 +63,23 @@ pub record Questions (f : List ℕ) (n t : ℕ) : Type 0 where
   pub gate-31 : (i : ℕ) → whereIs f n t ≡ NoMoment → gateAsked f n t i ≡ gate.Refused 31
   pub gate-32 : (i : ℕ) (s : Stretch) (p : ℕ) → whereIs f n t ≡ At s p
       → length (codesOf (momentAt (bytesOf f s) p .«bin_length») (dataAt (bytesOf f s) p)) ≤ i → gateAsked f n t i ≡ gate.Refused 32
+
+-- a row is refused by 30 and 31 as a gate is, and then by 33 where either buffer is too short
+pub record Row (f : List ℕ) (at : Where) (k k′ : List ℕ) (h h′ : List ℤ) (r : RowAnswer) : Type 0 where
+  pub row-30 : at ≡ NoRadial → RowTold f at k h r k′ h′ → toldRow r ≡ (30, [])
+  pub row-31 : at ≡ NoMoment → RowTold f at k h r k′ h′ → toldRow r ≡ (31, [])
+  pub row-33 : (s : Stretch) (p : ℕ) → at ≡ At s p → rooms (codesOf (momentAt (bytesOf f s) p .«bin_length») (dataAt (bytesOf f s) p)) k h ≡ false
+      → RowTold f at k h r k′ h′ → toldRow r ≡ (33, [])
+
+-- a tally is refused by 30 where the cut's block is not accepted, then by 31 where no whole radial of the cut has the type
+pub record Tallied (f : List ℕ) (cut t : ℕ) : Type 0 where
+  pub tally-30 : cutAccepted (stop f) cut ≡ false → tallyAnswer f cut t ≡ tally.Refused 30
+  pub tally-31 : cutAccepted (stop f) cut ≡ true → tallyOf f cut t .radials ≡ 0 → tallyAnswer f cut t ≡ tally.Refused 31
+
+-- an index is refused by 36 where the file is not complete, then by 33 where the room is too short, both with place 0
+pub record Indexed (f : List ℕ) (room : ℕ) : Type 0 where
+  pub index-36 : complete f ≡ false → answerOf f room ≡ 36 ∷ 0 ∷ []
+  pub index-33 : complete f ≡ true → room < length (indexOf f) → answerOf f room ≡ 33 ∷ 0 ∷ []
 
 -- the writer refuses in this order: 37 with place 0, where state and room do not agree; 25 after the end; 34 for another kind
 -- of block; what the reader says of the block; 35 for data of another length; 33 for a room that ends too early
@@ -101,6 +120,9 @@ pub record Determined : Type 0 where
 pub record DemandOne : Type 0 where
   pub endings : (f : List ℕ) → Ending f
   pub questions : (f : List ℕ) (n t : ℕ) → Questions f n t
+  pub rows : (f : List ℕ) (at : Where) (k k′ : List ℕ) (h h′ : List ℤ) (r : RowAnswer) → Row f at k k′ h h′ r
+  pub tallies : (f : List ℕ) (cut t : ℕ) → Tallied f cut t
+  pub indexes : (f : List ℕ) (room : ℕ) → Indexed f room
   pub writer : (b : Block) (w : Walk) (room : List ℕ) → WriterRefuses b w room
   pub unchanged : Unchanged
   pub determined : Determined

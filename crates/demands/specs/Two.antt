@@ -6,9 +6,8 @@ use Prim.Native.Nat.{ℕ, _<_, _≤_}
 use lib.IntN.{pos}
 use lib.ListN.{length}
 use Rattle.le.specs.Le.{Bytes}
-use Rattle.rules.specs.declared.check.Check.the-variants.{Fine}
-use Rattle.rules.specs.Check.{Rule, verdict}
-use Rattle.rules.proofs.Judged.{Hold}
+use Rattle.rules.specs.declared.check.Check.the-variants.{Fine, Broken}
+use Rattle.rules.specs.Check.{Rule, verdict, Hold, First}
 use Rattle.cut.specs.declared.Cut.{Cut}
 use Rattle.generic.specs.declared.Generic.{Generic}
 use Rattle.moment.specs.declared.Moment.{Moment}
@@ -24,7 +23,7 @@ use Rattle.task.specs.Task.{taskOf, taskBytes, TaskFits}
 use Rattle.gates.specs.declared.Coding.{Coding}
 use Rattle.gates.specs.declared.Gate.the-variants.{Value}
 use Rattle.gates.specs.Gates.{kindOf, toldOf, differenceOf, floatOf, hundredthsOf}
-use Rattle.gates.proofs.Nearest.{Nearest}
+use Rattle.gates.specs.Nearest.{Nearest}
 use Rattle.reading.specs.declared.Stretch.{Stretch}
 use Rattle.walk.specs.declared.due.Walk.{Walk}
 use Rattle.reading.specs.Reading.{stop, stretches, bytesOf, told}
@@ -37,10 +36,13 @@ use Rattle.index.specs.Index.{indexOf}
 use Rattle.writer.specs.Block.{Block}
 use Rattle.writer.specs.Trips.{Fits, TakenWhen, Keeps, CopyOf, SameBlock, Run, ReadBack}
 
--- a block is refused exactly when one of its rules does not hold: fine exactly when each of them does
+-- a block is refused exactly when one of its rules does not hold, with the number and place of the first such rule; it is
+-- fine exactly when each of them holds
 pub record RefusedExactly : Type 0 where
   pub fine : (rules : List Rule) → verdict rules ≡ Fine → Hold rules
   pub holds : (rules : List Rule) → Hold rules → verdict rules ≡ Fine
+  pub refused : (rules : List Rule) (n p : ℕ) → verdict rules ≡ Broken n p → First rules n p
+  pub first : (rules : List Rule) (n p : ℕ) → First rules n p → verdict rules ≡ Broken n p
 
 -- what reading accepts as a whole radial is a header that keeps its rules and moments that tile it, each keeping its own
 pub record WholeRadials : Type 0 where

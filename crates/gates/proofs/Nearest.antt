@@ -7,18 +7,7 @@ use native.Mathlib.Omega.{arith}
 use lib.IntN.{ℤ, pos, negsuc, negℤ, natAbs}
 use Rattle.gates.specs.declared.Coding.{Coding}
 use Rattle.gates.specs.Gates.{differenceOf, magnitudeOf, roundedOf, hundredthsOf}
-
--- n, with the sign of d
-abbrev pub like : ℤ → ℕ → ℤ
-like (pos d) n = pos n
-like (negsuc d) n = negℤ (pos n)
-
--- h is 100 * d / scale, to nearest, halves away from zero: it has the sign of d, and the size of 100 * d / scale is at least
--- that of h less a half, and under that of h and a half (each side taken 2 * scale times)
-pub record Nearest (d : ℤ) (scale : ℕ) (h : ℤ) : Type 0 where
-  pub sign : h ≡ like d (natAbs h)
-  pub at-least : natAbs h * (2 * scale) ≤ 200 * natAbs d + scale
-  pub under : 200 * natAbs d < natAbs h * (2 * scale) + scale
+use Rattle.gates.specs.Nearest.{like, Nearest}
 
 -- there is one such number
 nearest-size : {d : ℤ} {scale : ℕ} {h : ℤ} → Nearest d scale h → (200 * natAbs d + scale) / (2 * scale) ≡ natAbs h

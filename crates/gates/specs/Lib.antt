@@ -1,4 +1,5 @@
 pub mod Gates
+pub mod Nearest
 pub mod Codes
 pub mod Rows
 pub mod Counting

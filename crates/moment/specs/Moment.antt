@@ -6,7 +6,8 @@ use lib.ListN.{length}
 use lib.IntN.{pos}
 use Rattle.le.specs.Le.{le, bytes, part, run, int}
 use Rattle.rules.specs.Ranges.{among}
-use Rattle.rules.specs.Moments.{binLengthOk, lengthOk, typeOk}
+use Rattle.rules.specs.Masks.{binLengthOk, typeOk}
+use Rattle.rules.specs.Tiling.{lengthOk}
 use Rattle.moment.specs.declared.Moment.{Moment}
 use Rattle.moment.specs.declared.MomentDue.{MomentDue}
 use Rattle.rules.specs.declared.check.Check.{Check}

@@ -8,7 +8,8 @@ ghost use lib.IntN.{pos};
 ghost use Rattle.moment.specs.Moment.{momentOf, momentAt, momentBytes, momentCheck};
 use rules::check::Check;
 use rules::check::also;
-use rules::moments;
+use rules::masks;
+use rules::tiling;
 
 pub struct Moment {
     pub data_type: u32,
@@ -101,7 +102,7 @@ impl Moment {
     {
         let v = also(
             Check::Fine,
-            moments::type_ok(due.mask, due.seen, self.data_type),
+            masks::type_ok(due.mask, due.seen, self.data_type),
             20,
             Self::DATA_TYPE as u8,
         );
@@ -109,13 +110,13 @@ impl Moment {
         let v = also(v, offset_ok(self.offset), 22, Self::OFFSET as u8);
         let v = also(
             v,
-            moments::bin_length_ok(due.sizes, self.data_type, self.bin_length),
+            masks::bin_length_ok(due.sizes, self.data_type, self.bin_length),
             23,
             Self::BIN_LENGTH as u8,
         );
         let v = also(
             v,
-            moments::length_ok(due.todo, due.left, self.bin_length, self.length),
+            tiling::length_ok(due.todo, due.left, self.bin_length, self.length),
             24,
             Self::LENGTH as u8,
         );

@@ -7,7 +7,7 @@ use lib.IntN.{pos, negsuc}
 use Rattle.le.specs.Le.{le, bytes, part, run, int}
 use Rattle.rules.specs.Ranges.{among, angle, counts, countsInCut, is, notBelowZero}
 use Rattle.rules.specs.States.{stateOk}
-use Rattle.rules.specs.Moments.{momentNumberOk}
+use Rattle.rules.specs.Tiling.{momentNumberOk}
 use Rattle.radial.specs.declared.Radial.{Radial}
 use Rattle.radial.specs.declared.RadialDue.{RadialDue}
 use Rattle.rules.specs.declared.check.Check.{Check}

@@ -8,9 +8,9 @@ ghost use lib.IntN.{pos, negsuc};
 ghost use Rattle.radial.specs.Radial.{radialOf, radialAt, radialBytes, radialCheck};
 use rules::check::Check;
 use rules::check::also;
-use rules::moments;
 use rules::ranges;
 use rules::states;
+use rules::tiling;
 
 pub struct Radial {
     pub state: u32,
@@ -181,7 +181,7 @@ impl Radial {
         );
         let v = also(
             v,
-            moments::moment_number_ok(self.length_of_data, self.moment_number),
+            tiling::moment_number_ok(self.length_of_data, self.moment_number),
             19,
             Self::MOMENT_NUMBER as u8,
         );

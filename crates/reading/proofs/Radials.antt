@@ -11,7 +11,8 @@ use mir.Syntax.{w32}
 use borrow.Author.Tests.{eqb-true, eqb-false, lt-ltb, le-ltb, leb-true}
 use Rattle.le.proofs.Laws.{part-take}
 use Rattle.le.proofs.Tests.{both}
-use Rattle.rules.specs.Moments.{momentNumberOk, withBit}
+use Rattle.rules.specs.Masks.{withBit}
+use Rattle.rules.specs.Tiling.{momentNumberOk}
 use Rattle.rules.specs.Ranges.{within}
 use Rattle.rules.proofs.Numbers.{by-bits}
 use Rattle.rules.specs.declared.check.Check.the-variants.{Fine}

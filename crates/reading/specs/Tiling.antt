@@ -3,7 +3,7 @@
 use Prim.Native.Nat.{ℕ, suc, _+_, _-_}
 use mathlib.Core.List.{List, [], _∷_}
 use mathlib.Core.Path.{_≡_}
-use Rattle.rules.specs.Moments.{withBit}
+use Rattle.rules.specs.Masks.{withBit}
 use Rattle.rules.specs.declared.check.Check.the-variants.{Fine}
 use Rattle.moment.specs.declared.MomentDue.{MomentDue}
 use Rattle.radial.specs.declared.RadialDue.{RadialDue}

@@ -3,6 +3,7 @@
 use Prim.Native.Nat.{ℕ}
 use mathlib.Core.Bool.{Bool, true, false}
 use mathlib.Core.List.{List, [], _∷_}
+use mathlib.Core.Path.{_≡_}
 use Rattle.rules.specs.declared.check.Check.{Check}
 use Rattle.rules.specs.declared.check.Check.the-variants.{Fine, Broken}
 
@@ -27,3 +28,13 @@ judge v (r ∷ rs) = judge (also v (r .holds) (r .number) (r .place)) rs
 
 abbrev pub verdict : List Rule → Check
 verdict rs = judge Fine rs
+
+-- each rule of a list holds
+abbrev pub Hold : List Rule → Type 0
+Hold [] = Unit {0}
+Hold (r ∷ rs) = (r .holds ≡ true) × Hold rs
+
+-- the first rule of a list that does not hold has this number and place
+pub data First : List Rule → ℕ → ℕ → Type 0 where
+  here : (r : Rule) (rs : List Rule) → r .holds ≡ false → First (r ∷ rs) (r .number) (r .place)
+  behind : (r : Rule) (rs : List Rule) {n p : ℕ} → r .holds ≡ true → First rs n p → First (r ∷ rs) n p

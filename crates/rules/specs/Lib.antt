@@ -1,4 +1,5 @@
 pub mod Check
 pub mod Ranges
 pub mod States
-pub mod Moments
+pub mod Masks
+pub mod Tiling

@@ -2,7 +2,7 @@
 use Prim.Native.Nat.{ℕ, _+_, _-_}
 use mathlib.Core.Bool.{Bool, not, cond, _&&_}
 use lib.Dec.{eqb, leb, ltb}
-use Rattle.rules.specs.Moments.{withBit}
+use Rattle.rules.specs.Masks.{withBit}
 use Rattle.rules.specs.States.{closing}
 use Rattle.moment.specs.declared.Moment.{Moment}
 use Rattle.radial.specs.declared.Radial.{Radial}

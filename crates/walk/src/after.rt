@@ -10,7 +10,7 @@ use crate::due::Rest;
 use crate::due::Walk;
 use moment::Moment;
 use radial::Radial;
-use rules::moments;
+use rules::masks;
 use rules::states;
 
 // a less b, and 0 where b is more.
@@ -138,7 +138,7 @@ pub fn moment(r: Moment, w: Walk, end: usize) -> Walk
     let length = r.length as usize;
     let todo = less(rest.todo, 1);
     let left = less(rest.left, 32 + length);
-    let seen = moments::with_bit(rest.seen, r.data_type);
+    let seen = masks::with_bit(rest.seen, r.data_type);
     Walk {
         due: Due::Data,
         at: end,

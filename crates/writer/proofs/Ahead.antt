@@ -7,7 +7,7 @@ use mathlib.Core.List.{List, _++_}
 use lib.Dec.{lit<}
 use lib.ListN.{length}
 use mir.Syntax.{w32}
-use Rattle.rules.specs.Moments.{lengthOk}
+use Rattle.rules.specs.Tiling.{lengthOk}
 use Rattle.rules.proofs.Numbers.{below}
 use Rattle.moment.specs.declared.Moment.{Moment}
 use Rattle.moment.specs.Moment.{momentCheck, momentRules}

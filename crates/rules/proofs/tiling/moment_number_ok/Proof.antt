@@ -1,10 +1,10 @@
 use borrow.Author.Needs.{needs}
 use lib.Dec.{lit<}
 use mir.Syntax.{w32}
-use Rattle.rules.specs.Moments.{momentNumberOk}
+use Rattle.rules.specs.Tiling.{momentNumberOk}
 use Rattle.rules.proofs.Numbers.{inside, below, above}
-use Rattle.rules.proofs.moments.moment_number_ok.Statement.{statement}
-use Rattle.rules.proofs.moments.moment_number_ok.Tie as tie
+use Rattle.rules.proofs.tiling.moment_number_ok.Statement.{statement}
+use Rattle.rules.proofs.tiling.moment_number_ok.Tie as tie
 
 returns : tie.Need-returns
 unfolding momentNumberOk

@@ -1,7 +1,7 @@
 use native.Mathlib.Nat.{mod-zero}
 use borrow.Author.Needs.{needs}
-use Rattle.rules.proofs.moments.multiple.Statement.{statement}
-use Rattle.rules.proofs.moments.multiple.Tie as tie
+use Rattle.rules.proofs.tiling.multiple.Statement.{statement}
+use Rattle.rules.proofs.tiling.multiple.Tie as tie
 
 returns : tie.Need-returns
 returns c = rw (c .if1 .taken, mod-zero (c .before .args .x))

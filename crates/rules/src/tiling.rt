@@ -1,11 +1,11 @@
-// The moments of a radial: their number, types, bin lengths and tiling.
+// Tiling (document 01): how many moments a radial has, and how they fill its data.
 ghost use mathlib.Core.Path.{_≡_};
 ghost use Prim.Native.Nat.{_%_};
 ghost use lib.Dec.{eqb};
 ghost use lib.IntN.{pos};
 ghost use Rattle.le.specs.Le.{int};
 ghost use Rattle.rules.specs.Ranges.{among};
-ghost use Rattle.rules.specs.Moments.{momentNumberOk, bit as bitOf, withBit, typeOk, binLengthOk, tiles, lengthOk};
+ghost use Rattle.rules.specs.Tiling.{momentNumberOk, tiles, lengthOk};
 
 // Number 19 (table 3-1).
 pub fn moment_number_ok(left: u32, x: u32) -> bool
@@ -15,53 +15,6 @@ pub fn moment_number_ok(left: u32, x: u32) -> bool
         1..=64 => 33 * x <= left,
         _ => false,
     }
-}
-
-// Whether a mask has the bit of type t.
-fn bit(mask: u64, t: u32) -> bool
-    ensures { λ r. ⌜ r ≡ bitOf mask t ⌝ }
-{
-    match t {
-        1..=64 => (mask >> (t - 1)) % 2 == 1,
-        _ => false,
-    }
-}
-
-// The mask with the bit of type t set.
-pub fn with_bit(mask: u64, t: u32) -> u64
-    ensures { λ r. ⌜ r ≡ withBit mask t ⌝ }
-{
-    match t {
-        1..=64 => mask | (1 << (t - 1)),
-        _ => mask,
-    }
-}
-
-fn type_in_range(x: u32) -> bool
-    ensures { λ r. ⌜ r ≡ among (pos 1) (pos 64) (int x) ⌝ }
-{
-    match x {
-        1..=64 => true,
-        _ => false,
-    }
-}
-
-// Number 20 (table 3-2).
-pub fn type_ok(mask: u64, seen: u64, x: u32) -> bool
-    ensures { λ r. ⌜ r ≡ typeOk mask seen x ⌝ }
-{
-    if type_in_range(x) {
-        if bit(seen, x) { false } else { bit(mask, x) }
-    } else {
-        false
-    }
-}
-
-// Number 23 (table 3-2).
-pub fn bin_length_ok(sizes: u64, t: u32, x: u16) -> bool
-    ensures { λ r. ⌜ r ≡ binLengthOk sizes t x ⌝ }
-{
-    if bit(sizes, t) { x == 2 } else { x == 1 }
 }
 
 fn length_in_range(x: u32) -> bool

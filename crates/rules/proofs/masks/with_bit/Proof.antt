@@ -1,10 +1,10 @@
 use Prim.Native.Nat.{_-_}
 use native.Mathlib.Omega.{arith}
 use borrow.Author.Needs.{needs}
-use Rattle.rules.specs.Moments.{withBit}
+use Rattle.rules.specs.Masks.{withBit}
 use Rattle.rules.proofs.Numbers.{in-range, under, over, one-bit}
-use Rattle.rules.proofs.moments.with_bit.Statement.{statement}
-use Rattle.rules.proofs.moments.with_bit.Tie as tie
+use Rattle.rules.proofs.masks.with_bit.Statement.{statement}
+use Rattle.rules.proofs.masks.with_bit.Tie as tie
 
 returns : tie.Need-returns
 unfolding withBit

@@ -2,10 +2,10 @@ use mathlib.Core.Path.{sym}
 use borrow.Author.Needs.{needs}
 use lib.Dec.{lit<}
 use mir.Syntax.{w16}
-use Rattle.rules.specs.Moments.{binLengthOk}
+use Rattle.rules.specs.Masks.{binLengthOk}
 use Rattle.rules.proofs.Numbers.{exactly}
-use Rattle.rules.proofs.moments.bin_length_ok.Statement.{statement}
-use Rattle.rules.proofs.moments.bin_length_ok.Tie as tie
+use Rattle.rules.proofs.masks.bin_length_ok.Statement.{statement}
+use Rattle.rules.proofs.masks.bin_length_ok.Tie as tie
 
 returns : tie.Need-returns
 unfolding binLengthOk

@@ -1,7 +1,7 @@
 use borrow.Author.Needs.{needs}
-use Rattle.rules.specs.Moments.{typeOk}
-use Rattle.rules.proofs.moments.type_ok.Statement.{statement}
-use Rattle.rules.proofs.moments.type_ok.Tie as tie
+use Rattle.rules.specs.Masks.{typeOk}
+use Rattle.rules.proofs.masks.type_ok.Statement.{statement}
+use Rattle.rules.proofs.masks.type_ok.Tie as tie
 
 returns : tie.Need-returns
 unfolding typeOk

@@ -1,8 +1,8 @@
 use borrow.Author.Needs.{needs}
-use Rattle.rules.specs.Moments.{bit}
+use Rattle.rules.specs.Masks.{bit}
 use Rattle.rules.proofs.Numbers.{in-range, under, over}
-use Rattle.rules.proofs.moments.bit.Statement.{statement}
-use Rattle.rules.proofs.moments.bit.Tie as tie
+use Rattle.rules.proofs.masks.bit.Statement.{statement}
+use Rattle.rules.proofs.masks.bit.Tie as tie
 
 returns : tie.Need-returns
 unfolding bit

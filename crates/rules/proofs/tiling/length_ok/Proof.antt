@@ -1,7 +1,7 @@
 use borrow.Author.Needs.{needs}
-use Rattle.rules.specs.Moments.{lengthOk}
-use Rattle.rules.proofs.moments.length_ok.Statement.{statement}
-use Rattle.rules.proofs.moments.length_ok.Tie as tie
+use Rattle.rules.specs.Tiling.{lengthOk}
+use Rattle.rules.proofs.tiling.length_ok.Statement.{statement}
+use Rattle.rules.proofs.tiling.length_ok.Tie as tie
 
 returns : tie.Need-returns
 unfolding lengthOk

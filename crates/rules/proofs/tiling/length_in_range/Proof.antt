@@ -1,8 +1,8 @@
 use lib.Dec.{lit<}
 use mir.Syntax.{w32}
 use Rattle.rules.proofs.Numbers.{inside, below, above}
-use Rattle.rules.proofs.moments.length_in_range.Statement.{statement}
-use Rattle.rules.proofs.moments.length_in_range.Tie as tie
+use Rattle.rules.proofs.tiling.length_in_range.Statement.{statement}
+use Rattle.rules.proofs.tiling.length_in_range.Tie as tie
 
 returns : tie.Need-returns
 returns c = inside w32 1 32768 (c .before .before .args .x) (lit< tt) (c .before .if1 .left) (c .if2 .taken)

@@ -4,9 +4,9 @@ use native.Mathlib.Omega.{arith}
 use borrow.Author.Needs.{needs}
 use borrow.Author.Tests.{le-leb, lt-leb}
 use Rattle.le.proofs.Tests.{leb-same}
-use Rattle.rules.specs.Moments.{tiles}
-use Rattle.rules.proofs.moments.tiles_ok.Statement.{statement}
-use Rattle.rules.proofs.moments.tiles_ok.Tie as tie
+use Rattle.rules.specs.Tiling.{tiles}
+use Rattle.rules.proofs.tiling.tiles_ok.Statement.{statement}
+use Rattle.rules.proofs.tiling.tiles_ok.Tie as tie
 
 returns : tie.Need-returns
 unfolding tiles

@@ -1,0 +1,23 @@
+-- Tiling (document 01): how many moments a radial has, and how they fill its data (numbers 19 and 24).
+use mathlib.Core.Bool.{Bool, _&&_, cond}
+use Prim.Native.Nat.{ℕ, _+_, _-_, _*_, _%_}
+use lib.Dec.{eqb, leb}
+use lib.IntN.{pos}
+use Rattle.le.specs.Le.{int}
+use Rattle.rules.specs.Ranges.{among}
+
+-- a moment takes 33 bytes at the least: its header and a byte of data
+abbrev pub leastMoment : ℕ
+leastMoment = 33
+
+-- number 19: 1..64 moments, and 33 times as many bytes are there for them
+unfoldable pub momentNumberOk : ℕ → ℕ → Bool
+momentNumberOk left k = among (pos 1) (pos 64) (int k) && leb (leastMoment * k) left
+
+-- a moment that isn't the last leaves at least 33 bytes for each one after it; the last leaves none
+unfoldable pub tiles : ℕ → ℕ → ℕ → Bool
+tiles todo left n = cond (leb todo 1) (eqb (32 + n) left) (leb (32 + n + leastMoment * (todo - 1)) left)
+
+-- number 24: a length 1..32,768, a multiple of bin length, right for the tiling
+unfoldable pub lengthOk : ℕ → ℕ → ℕ → ℕ → Bool
+lengthOk todo left bin n = among (pos 1) (pos 32768) (int n) && eqb (n % bin) 0 && tiles todo left n

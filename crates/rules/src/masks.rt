@@ -1,0 +1,53 @@
+// Masks (document 01): which types a cut has, and how many bytes a gate of each takes.
+ghost use mathlib.Core.Path.{_≡_};
+ghost use lib.IntN.{pos};
+ghost use Rattle.le.specs.Le.{int};
+ghost use Rattle.rules.specs.Ranges.{among};
+ghost use Rattle.rules.specs.Masks.{bit as bitOf, withBit, typeOk, binLengthOk};
+
+// Whether a mask has the bit of type t.
+fn bit(mask: u64, t: u32) -> bool
+    ensures { λ r. ⌜ r ≡ bitOf mask t ⌝ }
+{
+    match t {
+        1..=64 => (mask >> (t - 1)) % 2 == 1,
+        _ => false,
+    }
+}
+
+// The mask with the bit of type t set.
+pub fn with_bit(mask: u64, t: u32) -> u64
+    ensures { λ r. ⌜ r ≡ withBit mask t ⌝ }
+{
+    match t {
+        1..=64 => mask | (1 << (t - 1)),
+        _ => mask,
+    }
+}
+
+fn type_in_range(x: u32) -> bool
+    ensures { λ r. ⌜ r ≡ among (pos 1) (pos 64) (int x) ⌝ }
+{
+    match x {
+        1..=64 => true,
+        _ => false,
+    }
+}
+
+// Number 20 (table 3-2).
+pub fn type_ok(mask: u64, seen: u64, x: u32) -> bool
+    ensures { λ r. ⌜ r ≡ typeOk mask seen x ⌝ }
+{
+    if type_in_range(x) {
+        if bit(seen, x) { false } else { bit(mask, x) }
+    } else {
+        false
+    }
+}
+
+// Number 23 (table 3-2).
+pub fn bin_length_ok(sizes: u64, t: u32, x: u16) -> bool
+    ensures { λ r. ⌜ r ≡ binLengthOk sizes t x ⌝ }
+{
+    if bit(sizes, t) { x == 2 } else { x == 1 }
+}
