@@ -13,7 +13,7 @@ use Rattle.le.proofs.Laws.{stored-no}
 use Rattle.gates.specs.declared.RowAnswer.{RowAnswer}
 use Rattle.gates.specs.declared.RowAnswer.the-variants as row
 use Rattle.gates.specs.Codes.{codesOf}
-use Rattle.gates.specs.Rows.{toldRow, rooms, Rowed}
+use Rattle.gates.specs.Rows.{rooms, Rowed}
 use Rattle.gates.proofs.Rows.{row-one}
 use Rattle.gates.proofs.Tellings.{told-gate-one}
 use Rattle.moment.specs.Moment.{momentAt}
