@@ -3,6 +3,7 @@ use Prim.Native.Nat.{ℕ, _+_}
 use mathlib.Core.Bool.{Bool, cond, _&&_}
 use mathlib.Core.List.{List, [], _∷_, map}
 use lib.Dec.{eqb, leb}
+use Rattle.cut.specs.Cut.{cutSize}
 use Rattle.rules.specs.Ranges.{within}
 use Rattle.moment.specs.Moment.{momentAt}
 use Rattle.gates.specs.Codes.{codesOf}
@@ -52,7 +53,7 @@ tallyOf f cut t = tallyOver f cut t (stretches f)
 
 -- whether a cut's block is among the accepted blocks, where the walk stops
 unfoldable pub cutAccepted : Walk → ℕ → Bool
-cutAccepted w cut = within 1 (w .plan .cuts) cut && leb (cutPlace cut + 256) (w .at)
+cutAccepted w cut = within 1 (w .plan .cuts) cut && leb (cutPlace cut + cutSize) (w .at)
 
 -- 30 where the cut's block is not accepted, then 31 where no whole radial of the cut carries the type
 unfoldable pub tallyTold : Bool → Tally → TallyAnswer

@@ -6,6 +6,7 @@ ghost use Rattle.ask.specs.Tallies.{noTally, added, tallyOne, cutAccepte
 use crate::answers;
 use crate::places;
 use crate::places::Where;
+use cut::Cut;
 use gates::Counts;
 use moment::Moment;
 use reading::Onward;
@@ -90,7 +91,7 @@ fn accepted(w: Walk, cut: u32) -> bool
     if w.plan.cuts < cut {
         return false;
     }
-    cut_place(cut) + 256 <= w.at
+    cut_place(cut) + Cut::SIZE <= w.at
 }
 
 fn told(accepted: bool, t: Tally) -> TallyAnswer

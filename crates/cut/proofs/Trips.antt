@@ -7,7 +7,7 @@ use native.Mathlib.Omega.{arith}
 use lib.ListN.{length, length-append}
 use Rattle.le.specs.Le.{le, bytes, part, run, items, Bytes}
 use Rattle.le.proofs.Laws.{length-bytes, le-bytes, bytes-le, part-all, join, run-numbers}
-use Rattle.cut.specs.Cut.{cutOf, cutBytes, CutFits}
+use Rattle.cut.specs.Cut.{cutOf, cutBytes, cutSize, CutFits}
 use Rattle.cut.specs.declared.Cut.{Cut}
 
 -- the record's bytes, with other lists for those that stand before its end
@@ -75,7 +75,7 @@ there-and-back r h =
       reserved = part-all 72 (r .reserved) (h .reserved) i;
     })
 
-pub back-and-there : (b : List ℕ) → Bytes b → length b ≡ 256 → cutBytes (cutOf b) ≡ b
+pub back-and-there : (b : List ℕ) → Bytes b → length b ≡ cutSize → cutBytes (cutOf b) ≡ b
 unfolding cutOf cutBytes items
 back-and-there b bs n =
     (join b 184 72 (join b 176 8 (join b 168 8 (join b 156 12 (join b 100 56 (join b 92 8 (join b 84 8 (run-numbers 4 21 b 0 bs)
@@ -89,6 +89,6 @@ back-and-there b bs n =
     ∙ part-all 256 b n
 
 -- how long a record's bytes are
-pub length-is : (r : Cut) → CutFits r → length (cutBytes r) ≡ 256
+pub length-is : (r : Cut) → CutFits r → length (cutBytes r) ≡ cutSize
 unfolding cutBytes run
 length-is r h = simp (length-append, length-bytes) (omega arith)

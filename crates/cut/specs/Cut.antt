@@ -10,6 +10,10 @@ use Rattle.cut.specs.declared.Cut.{Cut}
 use Rattle.rules.specs.declared.check.Check.{Check}
 use Rattle.rules.specs.Check.{Rule, rule, verdict}
 
+-- how many bytes the block has (table 2-5)
+abbrev pub cutSize : ℕ
+cutSize = 256
+
 -- the record that 256 bytes hold, each field at its place
 unfoldable pub cutOf : List ℕ → Cut
 cutOf b =
@@ -63,7 +67,7 @@ cutOf b =
 
 -- the record at place `at` of a file
 unfoldable pub cutAt : List ℕ → ℕ → Cut
-cutAt f at = cutOf (part 256 f at)
+cutAt f at = cutOf (part cutSize f at)
 
 -- the record's 256 bytes
 unfoldable pub cutBytes : Cut → List ℕ

@@ -5,7 +5,7 @@ ghost use lib.ListN.{length};
 ghost use Rattle.le.specs.Le.{stored, patch, int};
 ghost use Rattle.rules.specs.Ranges.{among};
 ghost use lib.IntN.{pos};
-ghost use Rattle.cut.specs.Cut.{cutOf, cutAt, cutBytes, cutCheck};
+ghost use Rattle.cut.specs.Cut.{cutOf, cutAt, cutBytes, cutSize, cutCheck};
 use rules::check::Check;
 use rules::check::also;
 
@@ -218,7 +218,7 @@ impl Cut {
 
     // The record into a room at a place, where it fits; no other byte changes.
     pub fn write(self, room: &mut [u8], at: usize)
-        ensures { λ _. ⌜ now (room .exit) ≡ stored 256 (now (room .entry)) at (cutBytes self) ⌝ }
+        ensures { λ _. ⌜ now (room .exit) ≡ stored cutSize (now (room .entry)) at (cutBytes self) ⌝ }
     {
         if le::has(room.len(), at, Self::SIZE) {
             self.write_here(room, at);
@@ -226,7 +226,7 @@ impl Cut {
     }
 
     fn write_here(self, room: &mut [u8], at: usize)
-        requires { ⌜ at + 256 ≤ length (now room) ⌝ }
+        requires { ⌜ at + cutSize ≤ length (now room) ⌝ }
         ensures { λ _. ⌜ now (room .exit) ≡ patch (now (room .entry)) at (cutBytes self) ⌝ }
     {
         let words = [

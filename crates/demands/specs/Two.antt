@@ -14,12 +14,12 @@ use Rattle.moment.specs.declared.Moment.{Moment}
 use Rattle.radial.specs.declared.Radial.{Radial}
 use Rattle.site.specs.declared.Site.{Site}
 use Rattle.task.specs.declared.Task.{Task}
-use Rattle.cut.specs.Cut.{cutOf, cutBytes, CutFits}
-use Rattle.generic.specs.Generic.{genericOf, genericBytes, GenericFits}
-use Rattle.moment.specs.Moment.{momentOf, momentBytes, MomentFits}
-use Rattle.radial.specs.Radial.{radialOf, radialBytes, RadialFits}
-use Rattle.site.specs.Site.{siteOf, siteBytes, SiteFits}
-use Rattle.task.specs.Task.{taskOf, taskBytes, TaskFits}
+use Rattle.cut.specs.Cut.{cutOf, cutBytes, CutFits, cutSize}
+use Rattle.generic.specs.Generic.{genericOf, genericBytes, GenericFits, genericSize}
+use Rattle.moment.specs.Moment.{momentOf, momentBytes, MomentFits, momentSize}
+use Rattle.radial.specs.Radial.{radialOf, radialBytes, RadialFits, radialSize}
+use Rattle.site.specs.Site.{siteOf, siteBytes, SiteFits, siteSize}
+use Rattle.task.specs.Task.{taskOf, taskBytes, TaskFits, taskSize}
 use Rattle.gates.specs.declared.Coding.{Coding}
 use Rattle.gates.specs.declared.Gate.the-variants.{Value}
 use Rattle.gates.specs.Gates.{kindOf, toldOf, differenceOf, floatOf, hundredthsOf}
@@ -65,12 +65,12 @@ pub record Trips : Type 0 where
   pub cut : (r : Cut) → CutFits r → cutOf (cutBytes r) ≡ r
   pub radial : (r : Radial) → RadialFits r → radialOf (radialBytes r) ≡ r
   pub moment : (r : Moment) → MomentFits r → momentOf (momentBytes r) ≡ r
-  pub generic-bytes : (b : List ℕ) → Bytes b → length b ≡ 32 → genericBytes (genericOf b) ≡ b
-  pub site-bytes : (b : List ℕ) → Bytes b → length b ≡ 128 → siteBytes (siteOf b) ≡ b
-  pub task-bytes : (b : List ℕ) → Bytes b → length b ≡ 256 → taskBytes (taskOf b) ≡ b
-  pub cut-bytes : (b : List ℕ) → Bytes b → length b ≡ 256 → cutBytes (cutOf b) ≡ b
-  pub radial-bytes : (b : List ℕ) → Bytes b → length b ≡ 64 → radialBytes (radialOf b) ≡ b
-  pub moment-bytes : (b : List ℕ) → Bytes b → length b ≡ 32 → momentBytes (momentOf b) ≡ b
+  pub generic-bytes : (b : List ℕ) → Bytes b → length b ≡ genericSize → genericBytes (genericOf b) ≡ b
+  pub site-bytes : (b : List ℕ) → Bytes b → length b ≡ siteSize → siteBytes (siteOf b) ≡ b
+  pub task-bytes : (b : List ℕ) → Bytes b → length b ≡ taskSize → taskBytes (taskOf b) ≡ b
+  pub cut-bytes : (b : List ℕ) → Bytes b → length b ≡ cutSize → cutBytes (cutOf b) ≡ b
+  pub radial-bytes : (b : List ℕ) → Bytes b → length b ≡ radialSize → radialBytes (radialOf b) ≡ b
+  pub moment-bytes : (b : List ℕ) → Bytes b → length b ≡ momentSize → momentBytes (momentOf b) ≡ b
 
 -- writing takes a block exactly when state and room agree, reading would take it there, and the room suffices; a block
 -- taken keeps agreement. The blocks that reading accepts, put one after the other, give the same bytes; a block put and read

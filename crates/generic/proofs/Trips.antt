@@ -7,7 +7,7 @@ use native.Mathlib.Omega.{arith}
 use lib.ListN.{length, length-append}
 use Rattle.le.specs.Le.{le, bytes, part, run, items, Bytes}
 use Rattle.le.proofs.Laws.{length-bytes, le-bytes, bytes-le, part-all, join, run-numbers}
-use Rattle.generic.specs.Generic.{genericOf, genericBytes, GenericFits}
+use Rattle.generic.specs.Generic.{genericOf, genericBytes, genericSize, GenericFits}
 use Rattle.generic.specs.declared.Generic.{Generic}
 
 pub there-and-back : (r : Generic) → GenericFits r → genericOf (genericBytes r) ≡ r
@@ -22,7 +22,7 @@ there-and-back r h =
       reserved = part-all 16 (r .reserved) (h .reserved) i;
     }
 
-pub back-and-there : (b : List ℕ) → Bytes b → length b ≡ 32 → genericBytes (genericOf b) ≡ b
+pub back-and-there : (b : List ℕ) → Bytes b → length b ≡ genericSize → genericBytes (genericOf b) ≡ b
 unfolding genericOf genericBytes items
 back-and-there b bs n =
     (join b 16 16 (join b 8 8 (join b 4 4 (bytes-le 4 b 0 bs)
@@ -32,6 +32,6 @@ back-and-there b bs n =
     ∙ part-all 32 b n
 
 -- how long a record's bytes are
-pub length-is : (r : Generic) → GenericFits r → length (genericBytes r) ≡ 32
+pub length-is : (r : Generic) → GenericFits r → length (genericBytes r) ≡ genericSize
 unfolding genericBytes run
 length-is r h = simp (length-append, length-bytes) (omega arith)

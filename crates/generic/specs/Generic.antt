@@ -9,6 +9,10 @@ use Rattle.generic.specs.declared.Generic.{Generic}
 use Rattle.rules.specs.declared.check.Check.{Check}
 use Rattle.rules.specs.Check.{Rule, rule, verdict}
 
+-- how many bytes the block has (table 2-2)
+abbrev pub genericSize : ℕ
+genericSize = 32
+
 -- the record that 32 bytes hold, each field at its place
 unfoldable pub genericOf : List ℕ → Generic
 genericOf b =
@@ -23,7 +27,7 @@ genericOf b =
 
 -- the record at place `at` of a file
 unfoldable pub genericAt : List ℕ → ℕ → Generic
-genericAt f at = genericOf (part 32 f at)
+genericAt f at = genericOf (part genericSize f at)
 
 -- the record's 32 bytes
 unfoldable pub genericBytes : Generic → List ℕ

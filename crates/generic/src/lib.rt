@@ -4,7 +4,7 @@ ghost use Prim.Native.Nat.{_+_, _≤_};
 ghost use lib.ListN.{length};
 ghost use Rattle.le.specs.Le.{stored, patch, int};
 ghost use Rattle.rules.specs.Ranges.{is};
-ghost use Rattle.generic.specs.Generic.{genericOf, genericAt, genericBytes, genericCheck};
+ghost use Rattle.generic.specs.Generic.{genericOf, genericAt, genericBytes, genericSize, genericCheck};
 use rules::check::Check;
 use rules::check::also;
 
@@ -61,7 +61,7 @@ impl Generic {
 
     // The record into a room at a place, where it fits; no other byte changes.
     pub fn write(self, room: &mut [u8], at: usize)
-        ensures { λ _. ⌜ now (room .exit) ≡ stored 32 (now (room .entry)) at (genericBytes self) ⌝ }
+        ensures { λ _. ⌜ now (room .exit) ≡ stored genericSize (now (room .entry)) at (genericBytes self) ⌝ }
     {
         if le::has(room.len(), at, Self::SIZE) {
             self.write_here(room, at);
@@ -69,7 +69,7 @@ impl Generic {
     }
 
     fn write_here(self, room: &mut [u8], at: usize)
-        requires { ⌜ at + 32 ≤ length (now room) ⌝ }
+        requires { ⌜ at + genericSize ≤ length (now room) ⌝ }
         ensures { λ _. ⌜ now (room .exit) ≡ patch (now (room .entry)) at (genericBytes self) ⌝ }
     {
         le::put_u32(room, at, self.magic);

@@ -1,7 +1,7 @@
 -- The listing of a file: its lines as their numbers, and the way from line to line. The places cited are document 01's.
 use Prim.Native.Nat.{ℕ, zero, suc, _+_, _/_}
 use mathlib.Core.List.{List, [], _∷_, map, flatMap}
-use Rattle.moment.specs.Moment.{momentAt}
+use Rattle.moment.specs.Moment.{momentAt, momentSize}
 use Rattle.radial.specs.Radial.{radialAt}
 use Rattle.moments.specs.declared.Ahead.{Ahead}
 use Rattle.moments.specs.declared.Ahead.the-variants as ahead
@@ -29,7 +29,7 @@ gatesIn length bin = length / bin
 -- the line of a moment with its header at `at` in the bytes b of a radial at `start` ("Numbers to try", moment line)
 abbrev pub momentLine : ℕ → List ℕ → ℕ → Line
 momentLine start b at =
-    line.Moment (momentAt b at .«data_type») (start + at + 32) (gatesIn (momentAt b at .length) (momentAt b at .«bin_length»))
+    line.Moment (momentAt b at .«data_type») (start + at + momentSize) (gatesIn (momentAt b at .length) (momentAt b at .«bin_length»))
 
 -- the lines of some moments of a radial ("Numbers to try": in file order)
 abbrev pub momentLines : List ℕ → Stretch → List ℕ → List Line

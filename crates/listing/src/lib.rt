@@ -2,6 +2,7 @@
 // the listing program): every whole radial, each with its moments behind it.
 ghost use mathlib.Core.Path.{_≡_};
 ghost use Prim.Native.Nat.{_+_, _<_, _^_};
+ghost use Rattle.moment.specs.Moment.{momentSize};
 ghost use Rattle.listing.specs.Listing.{radialLine, gatesIn, momentLine, atBegin, radialNext, lineOf};
 use moment::Moment;
 use moments::Ahead;
@@ -78,7 +79,7 @@ fn gates(length: u32, bin: u16) -> u32
 }
 
 fn moment_line(b: &[u8], start: usize, at: usize) -> Line
-    requires { ⌜ start + at + 32 < 2 ^ 64 ⌝ }
+    requires { ⌜ start + at + momentSize < 2 ^ 64 ⌝ }
     ensures { λ r. ⌜ r ≡ momentLine start (now (b .entry)) at ⌝ }
 {
     let m = Moment::read(b, at);

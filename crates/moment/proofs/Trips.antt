@@ -7,7 +7,7 @@ use native.Mathlib.Omega.{arith}
 use lib.ListN.{length, length-append}
 use Rattle.le.specs.Le.{le, bytes, part, run, items, Bytes}
 use Rattle.le.proofs.Laws.{length-bytes, le-bytes, bytes-le, part-all, join, run-numbers}
-use Rattle.moment.specs.Moment.{momentOf, momentBytes, MomentFits}
+use Rattle.moment.specs.Moment.{momentOf, momentBytes, momentSize, MomentFits}
 use Rattle.moment.specs.declared.Moment.{Moment}
 
 pub there-and-back : (r : Moment) → MomentFits r → momentOf (momentBytes r) ≡ r
@@ -23,7 +23,7 @@ there-and-back r h =
       reserved = part-all 12 (r .reserved) (h .reserved) i;
     }
 
-pub back-and-there : (b : List ℕ) → Bytes b → length b ≡ 32 → momentBytes (momentOf b) ≡ b
+pub back-and-there : (b : List ℕ) → Bytes b → length b ≡ momentSize → momentBytes (momentOf b) ≡ b
 unfolding momentOf momentBytes items
 back-and-there b bs n =
     (join b 20 12 (join b 16 4 (join b 12 4 (run-numbers 4 3 b 0 bs)
@@ -33,6 +33,6 @@ back-and-there b bs n =
     ∙ part-all 32 b n
 
 -- how long a record's bytes are
-pub length-is : (r : Moment) → MomentFits r → length (momentBytes r) ≡ 32
+pub length-is : (r : Moment) → MomentFits r → length (momentBytes r) ≡ momentSize
 unfolding momentBytes run
 length-is r h = simp (length-append, length-bytes) (omega arith)

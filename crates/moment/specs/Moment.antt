@@ -7,11 +7,15 @@ use lib.IntN.{pos}
 use Rattle.le.specs.Le.{le, bytes, part, run, int}
 use Rattle.rules.specs.Ranges.{among}
 use Rattle.rules.specs.Masks.{binLengthOk, typeOk}
-use Rattle.rules.specs.Tiling.{lengthOk}
+use Rattle.rules.specs.Tiling.{lengthOk, momentHeader}
 use Rattle.moment.specs.declared.Moment.{Moment}
 use Rattle.moment.specs.declared.MomentDue.{MomentDue}
 use Rattle.rules.specs.declared.check.Check.{Check}
 use Rattle.rules.specs.Check.{Rule, rule, verdict}
+
+-- how many bytes the block has (table 3-2)
+abbrev pub momentSize : ℕ
+momentSize = momentHeader
 
 -- the record that 32 bytes hold, each field at its place
 unfoldable pub momentOf : List ℕ → Moment
@@ -28,7 +32,7 @@ momentOf b =
 
 -- the record at place `at` of a file
 unfoldable pub momentAt : List ℕ → ℕ → Moment
-momentAt f at = momentOf (part 32 f at)
+momentAt f at = momentOf (part momentSize f at)
 
 -- the record's 32 bytes
 unfoldable pub momentBytes : Moment → List ℕ

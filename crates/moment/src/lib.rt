@@ -5,7 +5,7 @@ ghost use lib.ListN.{length};
 ghost use Rattle.le.specs.Le.{stored, patch, int};
 ghost use Rattle.rules.specs.Ranges.{among};
 ghost use lib.IntN.{pos};
-ghost use Rattle.moment.specs.Moment.{momentOf, momentAt, momentBytes, momentCheck};
+ghost use Rattle.moment.specs.Moment.{momentOf, momentAt, momentBytes, momentSize, momentCheck};
 use rules::check::Check;
 use rules::check::also;
 use rules::masks;
@@ -76,7 +76,7 @@ impl Moment {
 
     // The record into a room at a place, where it fits; no other byte changes.
     pub fn write(self, room: &mut [u8], at: usize)
-        ensures { λ _. ⌜ now (room .exit) ≡ stored 32 (now (room .entry)) at (momentBytes self) ⌝ }
+        ensures { λ _. ⌜ now (room .exit) ≡ stored momentSize (now (room .entry)) at (momentBytes self) ⌝ }
     {
         if le::has(room.len(), at, Self::SIZE) {
             self.write_here(room, at);
@@ -84,7 +84,7 @@ impl Moment {
     }
 
     fn write_here(self, room: &mut [u8], at: usize)
-        requires { ⌜ at + 32 ≤ length (now room) ⌝ }
+        requires { ⌜ at + momentSize ≤ length (now room) ⌝ }
         ensures { λ _. ⌜ now (room .exit) ≡ patch (now (room .entry)) at (momentBytes self) ⌝ }
     {
         let words = [self.data_type, self.scale, self.offset];

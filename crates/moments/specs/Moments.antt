@@ -5,8 +5,8 @@ use mathlib.Core.Bool.{cond}
 use mathlib.Core.List.{List, [], _∷_}
 use lib.Dec.{eqb, leb}
 use lib.ListN.{length, take, drop}
-use Rattle.moment.specs.Moment.{momentAt}
-use Rattle.radial.specs.Radial.{radialAt}
+use Rattle.moment.specs.Moment.{momentAt, momentSize}
+use Rattle.radial.specs.Radial.{radialAt, radialSize}
 use Rattle.moments.specs.declared.Place.{Place}
 use Rattle.moments.specs.declared.Ahead.{Ahead}
 use Rattle.moments.specs.declared.Ahead.the-variants.{There, End}
@@ -15,12 +15,12 @@ use Rattle.moments.specs.declared.Found.the-variants.{At, Nowhere}
 
 -- where the header after the one at `at` stands ("Tiling")
 abbrev pub after : List ℕ → ℕ → ℕ
-after b at = at + 32 + momentAt b at .length
+after b at = at + momentSize + momentAt b at .length
 
 -- k moments from place `at` on ("Blocks"), up to the first whose header is not all in b
 unfoldable pub momentsFrom : ℕ → List ℕ → ℕ → List ℕ
 momentsFrom zero b at = []
-momentsFrom (suc k) b at = cond (leb (at + 32) (length b)) (at ∷ momentsFrom k b (after b at)) []
+momentsFrom (suc k) b at = cond (leb (at + momentSize) (length b)) (at ∷ momentsFrom k b (after b at)) []
 
 -- the moments still to come ("Blocks")
 abbrev pub momentsAt : List ℕ → Place → List ℕ
@@ -28,7 +28,7 @@ momentsAt b p = momentsFrom (p .todo) b (p .at)
 
 -- all K are to come behind the radial header ("Blocks")
 abbrev pub firstOf : List ℕ → Place
-firstOf b = record { todo = radialAt b 0 .«moment_number»; at = 64 }
+firstOf b = record { todo = radialAt b 0 .«moment_number»; at = radialSize }
 
 -- the moments of the radial, in file order ("Blocks")
 abbrev pub momentsOf : List ℕ → List ℕ
@@ -37,7 +37,7 @@ momentsOf b = momentsAt b (firstOf b)
 -- the next of k moments from place `at` on, and the place to go on from ("Tiling")
 unfoldable pub aheadFrom : ℕ → List ℕ → ℕ → Ahead
 aheadFrom zero b at = End
-aheadFrom (suc k) b at = cond (leb (at + 32) (length b)) (There at (record { todo = k; at = after b at })) End
+aheadFrom (suc k) b at = cond (leb (at + momentSize) (length b)) (There at (record { todo = k; at = after b at })) End
 
 -- the next of the moments still to come ("Tiling")
 abbrev pub aheadOf : List ℕ → Place → Ahead
@@ -50,4 +50,4 @@ findIn b t (at ∷ rest) = cond (eqb (momentAt b at .«data_type») t) (At at) (
 
 -- the part of b that holds a moment's data ("What reading tells"): length bytes behind its header, or what b has of them
 unfoldable pub dataAt : List ℕ → ℕ → List ℕ
-dataAt b at = take (momentAt b at .length) (drop (at + 32) b)
+dataAt b at = take (momentAt b at .length) (drop (at + momentSize) b)

@@ -3,7 +3,7 @@
 ghost use mathlib.Core.Path.{_≡_};
 ghost use Prim.Native.Nat.{_+_, _≤_};
 ghost use lib.ListN.{length};
-ghost use Rattle.moment.specs.Moment.{momentAt};
+ghost use Rattle.moment.specs.Moment.{momentAt, momentSize};
 ghost use Rattle.moments.specs.Moments.{firstOf, aheadOf, findIn, momentsOf, dataAt};
 use moment::Moment;
 use radial::Radial;
@@ -37,14 +37,14 @@ pub fn first(b: &[u8]) -> Place
 
 // One field of a header, so that a search does not decode them all.
 fn type_at(b: &[u8], at: usize) -> u32
-    requires { ⌜ at + 32 ≤ length (now b) ⌝ }
+    requires { ⌜ at + momentSize ≤ length (now b) ⌝ }
     ensures { λ r. ⌜ r ≡ momentAt (now (b .entry)) at .«data_type» ⌝ }
 {
     le::u32_at(b, at + Moment::DATA_TYPE)
 }
 
 fn length_at(b: &[u8], at: usize) -> u32
-    requires { ⌜ at + 32 ≤ length (now b) ⌝ }
+    requires { ⌜ at + momentSize ≤ length (now b) ⌝ }
     ensures { λ r. ⌜ r ≡ momentAt (now (b .entry)) at .length ⌝ }
 {
     le::u32_at(b, at + Moment::LENGTH)

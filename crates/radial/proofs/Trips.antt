@@ -7,7 +7,7 @@ use native.Mathlib.Omega.{arith}
 use lib.ListN.{length, length-append}
 use Rattle.le.specs.Le.{le, bytes, part, run, items, Bytes}
 use Rattle.le.proofs.Laws.{length-bytes, le-bytes, part-all, join, run-numbers}
-use Rattle.radial.specs.Radial.{radialOf, radialBytes, RadialFits}
+use Rattle.radial.specs.Radial.{radialOf, radialBytes, radialSize, RadialFits}
 use Rattle.radial.specs.declared.Radial.{Radial}
 
 pub there-and-back : (r : Radial) → RadialFits r → radialOf (radialBytes r) ≡ r
@@ -28,7 +28,7 @@ there-and-back r h =
       reserved = part-all 20 (r .reserved) (h .reserved) i;
     }
 
-pub back-and-there : (b : List ℕ) → Bytes b → length b ≡ 64 → radialBytes (radialOf b) ≡ b
+pub back-and-there : (b : List ℕ) → Bytes b → length b ≡ radialSize → radialBytes (radialOf b) ≡ b
 unfolding radialOf radialBytes items
 back-and-there b bs n =
     (join b 44 20 (run-numbers 4 11 b 0 bs)
@@ -36,6 +36,6 @@ back-and-there b bs n =
     ∙ part-all 64 b n
 
 -- how long a record's bytes are
-pub length-is : (r : Radial) → RadialFits r → length (radialBytes r) ≡ 64
+pub length-is : (r : Radial) → RadialFits r → length (radialBytes r) ≡ radialSize
 unfolding radialBytes run
 length-is r h = simp (length-append, length-bytes) (omega arith)

@@ -13,6 +13,10 @@ use Rattle.radial.specs.declared.RadialDue.{RadialDue}
 use Rattle.rules.specs.declared.check.Check.{Check}
 use Rattle.rules.specs.Check.{Rule, rule, verdict}
 
+-- how many bytes the block has (table 3-1)
+abbrev pub radialSize : ℕ
+radialSize = 64
+
 -- the record that 64 bytes hold, each field at its place
 unfoldable pub radialOf : List ℕ → Radial
 radialOf b =
@@ -33,7 +37,7 @@ radialOf b =
 
 -- the record at place `at` of a file
 unfoldable pub radialAt : List ℕ → ℕ → Radial
-radialAt f at = radialOf (part 64 f at)
+radialAt f at = radialOf (part radialSize f at)
 
 -- the record's 64 bytes
 unfoldable pub radialBytes : Radial → List ℕ

@@ -5,7 +5,7 @@ ghost use lib.ListN.{length};
 ghost use Rattle.le.specs.Le.{stored, patch, int};
 ghost use Rattle.rules.specs.Ranges.{among, is, counts, countsInCut, angle};
 ghost use lib.IntN.{pos, negsuc};
-ghost use Rattle.radial.specs.Radial.{radialOf, radialAt, radialBytes, radialCheck};
+ghost use Rattle.radial.specs.Radial.{radialOf, radialAt, radialBytes, radialSize, radialCheck};
 use rules::check::Check;
 use rules::check::also;
 use rules::ranges;
@@ -96,7 +96,7 @@ impl Radial {
 
     // The record into a room at a place, where it fits; no other byte changes.
     pub fn write(self, room: &mut [u8], at: usize)
-        ensures { λ _. ⌜ now (room .exit) ≡ stored 64 (now (room .entry)) at (radialBytes self) ⌝ }
+        ensures { λ _. ⌜ now (room .exit) ≡ stored radialSize (now (room .entry)) at (radialBytes self) ⌝ }
     {
         if le::has(room.len(), at, Self::SIZE) {
             self.write_here(room, at);
@@ -104,7 +104,7 @@ impl Radial {
     }
 
     fn write_here(self, room: &mut [u8], at: usize)
-        requires { ⌜ at + 64 ≤ length (now room) ⌝ }
+        requires { ⌜ at + radialSize ≤ length (now room) ⌝ }
         ensures { λ _. ⌜ now (room .exit) ≡ patch (now (room .entry)) at (radialBytes self) ⌝ }
     {
         let words = [

@@ -12,12 +12,12 @@ use Rattle.moment.specs.declared.Moment.{Moment}
 use Rattle.radial.specs.declared.Radial.{Radial}
 use Rattle.site.specs.declared.Site.{Site}
 use Rattle.task.specs.declared.Task.{Task}
-use Rattle.cut.specs.Cut.{cutAt, cutCheck}
-use Rattle.generic.specs.Generic.{genericAt, genericCheck}
-use Rattle.moment.specs.Moment.{momentAt, momentCheck}
-use Rattle.radial.specs.Radial.{radialAt, radialCheck}
-use Rattle.site.specs.Site.{siteAt, siteCheck}
-use Rattle.task.specs.Task.{taskAt, taskCheck}
+use Rattle.cut.specs.Cut.{cutAt, cutCheck, cutSize}
+use Rattle.generic.specs.Generic.{genericAt, genericCheck, genericSize}
+use Rattle.moment.specs.Moment.{momentAt, momentCheck, momentSize}
+use Rattle.radial.specs.Radial.{radialAt, radialCheck, radialSize}
+use Rattle.site.specs.Site.{siteAt, siteCheck, siteSize}
+use Rattle.task.specs.Task.{taskAt, taskCheck, taskSize}
 use Rattle.walk.specs.declared.due.Due.{Due}
 use Rattle.walk.specs.declared.due.Due.the-variants as due
 use Rattle.walk.specs.declared.due.Walk.{Walk}
@@ -33,23 +33,23 @@ settle (Broken n p) at next = Refused n (at + p)
 
 -- what a record says where it is due: the reader finds it in the file, the writer is handed it
 unfoldable pub takeGeneric : Generic → Walk → Step
-takeGeneric r w = settle (genericCheck r) (w .at) (afterGeneric w (w .at + 32))
+takeGeneric r w = settle (genericCheck r) (w .at) (afterGeneric w (w .at + genericSize))
 
 unfoldable pub takeSite : Site → Walk → Step
-takeSite r w = settle (siteCheck r) (w .at) (afterSite w (w .at + 128))
+takeSite r w = settle (siteCheck r) (w .at) (afterSite w (w .at + siteSize))
 
 unfoldable pub takeTask : Task → Walk → Step
-takeTask r w = settle (taskCheck r) (w .at) (afterTask (r .«scan_type») (r .«cut_number») w (w .at + 256))
+takeTask r w = settle (taskCheck r) (w .at) (afterTask (r .«scan_type») (r .«cut_number») w (w .at + taskSize))
 
 unfoldable pub takeCut : Cut → Walk → Step
-takeCut r w = settle (cutCheck r) (w .at) (afterCut w (w .at + 256))
+takeCut r w = settle (cutCheck r) (w .at) (afterCut w (w .at + cutSize))
 
 unfoldable pub takeRadial : Radial → Cut → Walk → Step
 takeRadial r c w =
-    settle (radialCheck r (radialDue w)) (w .at) (afterRadial r (c .«moments_mask») (c .«size_mask») w (w .at + 64))
+    settle (radialCheck r (radialDue w)) (w .at) (afterRadial r (c .«moments_mask») (c .«size_mask») w (w .at + radialSize))
 
 unfoldable pub takeMoment : Moment → Walk → Step
-takeMoment r w = settle (momentCheck r (momentDue w)) (w .at) (afterMoment r w (w .at + 32))
+takeMoment r w = settle (momentCheck r (momentDue w)) (w .at) (afterMoment r w (w .at + momentSize))
 
 -- data has no rule
 unfoldable pub takeData : Walk → Step

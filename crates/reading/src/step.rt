@@ -2,12 +2,12 @@
 ghost use mathlib.Core.Path.{_≡_};
 ghost use Prim.Native.Nat.{_+_, _≤_, _<_, _^_};
 ghost use lib.ListN.{length};
-ghost use Rattle.cut.specs.Cut.{cutAt};
-ghost use Rattle.generic.specs.Generic.{genericAt};
-ghost use Rattle.moment.specs.Moment.{momentAt};
-ghost use Rattle.radial.specs.Radial.{radialAt};
-ghost use Rattle.site.specs.Site.{siteAt};
-ghost use Rattle.task.specs.Task.{taskAt};
+ghost use Rattle.cut.specs.Cut.{cutAt, cutSize};
+ghost use Rattle.generic.specs.Generic.{genericAt, genericSize};
+ghost use Rattle.moment.specs.Moment.{momentAt, momentSize};
+ghost use Rattle.radial.specs.Radial.{radialAt, radialSize};
+ghost use Rattle.site.specs.Site.{siteAt, siteSize};
+ghost use Rattle.task.specs.Task.{taskAt, taskSize};
 ghost use Rattle.walk.specs.Due.{sizeOf};
 ghost use Rattle.reading.specs.Step.{settle as settleOf, takeGeneric, takeSite, takeTask, takeCut, takeRadial, takeMoment, cutIn, blockAt, stepOf};
 use cut::Cut;
@@ -48,7 +48,7 @@ fn settle(check: Check, at: usize, next: Walk) -> Step
 
 // Each block below is found in p, the file up to the block's end.
 fn generic(p: &[u8], w: Walk) -> Step
-    requires { ⌜ length (now p) ≡ w .at + 32 ⌝ }
+    requires { ⌜ length (now p) ≡ w .at + genericSize ⌝ }
     ensures { λ r. ⌜ r ≡ takeGeneric (genericAt (now (p .entry)) (w .at)) w ⌝ }
 {
     let at = w.at;
@@ -57,7 +57,7 @@ fn generic(p: &[u8], w: Walk) -> Step
 }
 
 fn site(p: &[u8], w: Walk) -> Step
-    requires { ⌜ length (now p) ≡ w .at + 128 ⌝ }
+    requires { ⌜ length (now p) ≡ w .at + siteSize ⌝ }
     ensures { λ r. ⌜ r ≡ takeSite (siteAt (now (p .entry)) (w .at)) w ⌝ }
 {
     let at = w.at;
@@ -66,7 +66,7 @@ fn site(p: &[u8], w: Walk) -> Step
 }
 
 fn task(p: &[u8], w: Walk) -> Step
-    requires { ⌜ length (now p) ≡ w .at + 256 ⌝ }
+    requires { ⌜ length (now p) ≡ w .at + taskSize ⌝ }
     ensures { λ r. ⌜ r ≡ takeTask (taskAt (now (p .entry)) (w .at)) w ⌝ }
 {
     let at = w.at;
@@ -79,7 +79,7 @@ fn task(p: &[u8], w: Walk) -> Step
 }
 
 fn cut(p: &[u8], w: Walk) -> Step
-    requires { ⌜ length (now p) ≡ w .at + 256 ⌝ }
+    requires { ⌜ length (now p) ≡ w .at + cutSize ⌝ }
     ensures { λ r. ⌜ r ≡ takeCut (cutAt (now (p .entry)) (w .at)) w ⌝ }
 {
     let at = w.at;
@@ -88,7 +88,7 @@ fn cut(p: &[u8], w: Walk) -> Step
 }
 
 fn radial(p: &[u8], w: Walk) -> Step
-    requires { ⌜ length (now p) ≡ w .at + 64 ⌝ }
+    requires { ⌜ length (now p) ≡ w .at + radialSize ⌝ }
     ensures { λ r. ⌜ r ≡ takeRadial (radialAt (now (p .entry)) (w .at)) (cutIn (now (p .entry)) w) w ⌝ }
 {
     let at = w.at;
@@ -104,7 +104,7 @@ fn radial(p: &[u8], w: Walk) -> Step
 }
 
 fn moment(p: &[u8], w: Walk) -> Step
-    requires { ⌜ length (now p) ≡ w .at + 32 ⌝ }
+    requires { ⌜ length (now p) ≡ w .at + momentSize ⌝ }
     ensures { λ r. ⌜ r ≡ takeMoment (momentAt (now (p .entry)) (w .at)) w ⌝ }
 {
     let at = w.at;

@@ -6,9 +6,12 @@ use lib.IntN.{pos}
 use Rattle.le.specs.Le.{int}
 use Rattle.rules.specs.Ranges.{among}
 
--- a moment takes 33 bytes at the least: its header and a byte of data
+-- the bytes of a moment header, and the least that a moment takes: its header and a byte of data
+abbrev pub momentHeader : ℕ
+momentHeader = 32
+
 abbrev pub leastMoment : ℕ
-leastMoment = 33
+leastMoment = momentHeader + 1
 
 -- number 19: 1..64 moments, and 33 times as many bytes are there for them
 unfoldable pub momentNumberOk : ℕ → ℕ → Bool
@@ -16,7 +19,7 @@ momentNumberOk left k = among (pos 1) (pos 64) (int k) && leb (leastMoment * k) 
 
 -- a moment that isn't the last leaves at least 33 bytes for each one after it; the last leaves none
 unfoldable pub tiles : ℕ → ℕ → ℕ → Bool
-tiles todo left n = cond (leb todo 1) (eqb (32 + n) left) (leb (32 + n + leastMoment * (todo - 1)) left)
+tiles todo left n = cond (leb todo 1) (eqb (momentHeader + n) left) (leb (momentHeader + n + leastMoment * (todo - 1)) left)
 
 -- number 24: a length 1..32,768, a multiple of bin length, right for the tiling
 unfoldable pub lengthOk : ℕ → ℕ → ℕ → ℕ → Bool

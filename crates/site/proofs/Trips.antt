@@ -7,7 +7,7 @@ use native.Mathlib.Omega.{arith}
 use lib.ListN.{length, length-append}
 use Rattle.le.specs.Le.{le, bytes, part, run, items, Bytes}
 use Rattle.le.proofs.Laws.{length-bytes, le-bytes, bytes-le, part-all, join, run-numbers}
-use Rattle.site.specs.Site.{siteOf, siteBytes, SiteFits}
+use Rattle.site.specs.Site.{siteOf, siteBytes, siteSize, SiteFits}
 use Rattle.site.specs.declared.Site.{Site}
 
 -- the record's bytes, with other lists for those that stand before its end
@@ -41,7 +41,7 @@ there-and-back r h =
       reserved = part-all 54 (r .reserved) (h .reserved) i;
     })
 
-pub back-and-there : (b : List ℕ) → Bytes b → length b ≡ 128 → siteBytes (siteOf b) ≡ b
+pub back-and-there : (b : List ℕ) → Bytes b → length b ≡ siteSize → siteBytes (siteOf b) ≡ b
 unfolding siteOf siteBytes items
 back-and-there b bs n =
     (join b 74 54 (join b 72 2 (join b 40 32 (join b 8 32 refl
@@ -52,6 +52,6 @@ back-and-there b bs n =
     ∙ part-all 128 b n
 
 -- how long a record's bytes are
-pub length-is : (r : Site) → SiteFits r → length (siteBytes r) ≡ 128
+pub length-is : (r : Site) → SiteFits r → length (siteBytes r) ≡ siteSize
 unfolding siteBytes run
 length-is r h = simp (length-append, length-bytes) (omega arith)

@@ -10,6 +10,10 @@ use Rattle.site.specs.declared.Site.{Site}
 use Rattle.rules.specs.declared.check.Check.{Check}
 use Rattle.rules.specs.Check.{Rule, rule, verdict}
 
+-- how many bytes the block has (table 2-3)
+abbrev pub siteSize : ℕ
+siteSize = 128
+
 -- the record that 128 bytes hold, each field at its place
 unfoldable pub siteOf : List ℕ → Site
 siteOf b =
@@ -30,7 +34,7 @@ siteOf b =
 
 -- the record at place `at` of a file
 unfoldable pub siteAt : List ℕ → ℕ → Site
-siteAt f at = siteOf (part 128 f at)
+siteAt f at = siteOf (part siteSize f at)
 
 -- the record's 128 bytes
 unfoldable pub siteBytes : Site → List ℕ

@@ -5,7 +5,7 @@ ghost use lib.ListN.{length};
 ghost use Rattle.le.specs.Le.{stored, patch};
 ghost use Rattle.rules.specs.Ranges.{angle};
 ghost use lib.IntN.{pos, negsuc};
-ghost use Rattle.site.specs.Site.{siteOf, siteAt, siteBytes, siteCheck};
+ghost use Rattle.site.specs.Site.{siteOf, siteAt, siteBytes, siteSize, siteCheck};
 use rules::check::Check;
 use rules::check::also;
 
@@ -88,7 +88,7 @@ impl Site {
 
     // The record into a room at a place, where it fits; no other byte changes.
     pub fn write(self, room: &mut [u8], at: usize)
-        ensures { λ _. ⌜ now (room .exit) ≡ stored 128 (now (room .entry)) at (siteBytes self) ⌝ }
+        ensures { λ _. ⌜ now (room .exit) ≡ stored siteSize (now (room .entry)) at (siteBytes self) ⌝ }
     {
         if le::has(room.len(), at, Self::SIZE) {
             self.write_here(room, at);
@@ -96,7 +96,7 @@ impl Site {
     }
 
     fn write_here(self, room: &mut [u8], at: usize)
-        requires { ⌜ at + 128 ≤ length (now room) ⌝ }
+        requires { ⌜ at + siteSize ≤ length (now room) ⌝ }
         ensures { λ _. ⌜ now (room .exit) ≡ patch (now (room .entry)) at (siteBytes self) ⌝ }
     {
         let code = self.code;

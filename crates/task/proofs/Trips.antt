@@ -7,7 +7,7 @@ use native.Mathlib.Omega.{arith}
 use lib.ListN.{length, length-append}
 use Rattle.le.specs.Le.{le, bytes, part, run, items, Bytes}
 use Rattle.le.proofs.Laws.{length-bytes, le-bytes, part-all, join, run-numbers}
-use Rattle.task.specs.Task.{taskOf, taskBytes, TaskFits}
+use Rattle.task.specs.Task.{taskOf, taskBytes, taskSize, TaskFits}
 use Rattle.task.specs.declared.Task.{Task}
 
 -- the record's bytes, with other lists for those that stand before its end
@@ -45,7 +45,7 @@ there-and-back r h =
       reserved = part-all 40 (r .reserved) (h .reserved) i;
     })
 
-pub back-and-there : (b : List ℕ) → Bytes b → length b ≡ 256 → taskBytes (taskOf b) ≡ b
+pub back-and-there : (b : List ℕ) → Bytes b → length b ≡ taskSize → taskBytes (taskOf b) ≡ b
 unfolding taskOf taskBytes items
 back-and-there b bs n =
     (join b 216 40 (join b 160 56 (join b 32 128 refl
@@ -55,6 +55,6 @@ back-and-there b bs n =
     ∙ part-all 256 b n
 
 -- how long a record's bytes are
-pub length-is : (r : Task) → TaskFits r → length (taskBytes r) ≡ 256
+pub length-is : (r : Task) → TaskFits r → length (taskBytes r) ≡ taskSize
 unfolding taskBytes run
 length-is r h = simp (length-append, length-bytes) (omega arith)

@@ -11,6 +11,10 @@ use Rattle.task.specs.declared.Task.{Task}
 use Rattle.rules.specs.declared.check.Check.{Check}
 use Rattle.rules.specs.Check.{Rule, rule, verdict}
 
+-- how many bytes the block has (table 2-4)
+abbrev pub taskSize : ℕ
+taskSize = 256
+
 -- the record that 256 bytes hold, each field at its place
 unfoldable pub taskOf : List ℕ → Task
 taskOf b =
@@ -36,7 +40,7 @@ taskOf b =
 
 -- the record at place `at` of a file
 unfoldable pub taskAt : List ℕ → ℕ → Task
-taskAt f at = taskOf (part 256 f at)
+taskAt f at = taskOf (part taskSize f at)
 
 -- the record's 256 bytes
 unfoldable pub taskBytes : Task → List ℕ

@@ -5,7 +5,7 @@ ghost use lib.ListN.{length};
 ghost use Rattle.le.specs.Le.{stored, patch, int};
 ghost use Rattle.rules.specs.Ranges.{among};
 ghost use lib.IntN.{pos};
-ghost use Rattle.task.specs.Task.{taskOf, taskAt, taskBytes, taskCheck};
+ghost use Rattle.task.specs.Task.{taskOf, taskAt, taskBytes, taskSize, taskCheck};
 use rules::check::Check;
 use rules::check::also;
 use rules::ranges;
@@ -110,7 +110,7 @@ impl Task {
 
     // The record into a room at a place, where it fits; no other byte changes.
     pub fn write(self, room: &mut [u8], at: usize)
-        ensures { λ _. ⌜ now (room .exit) ≡ stored 256 (now (room .entry)) at (taskBytes self) ⌝ }
+        ensures { λ _. ⌜ now (room .exit) ≡ stored taskSize (now (room .entry)) at (taskBytes self) ⌝ }
     {
         if le::has(room.len(), at, Self::SIZE) {
             self.write_here(room, at);
@@ -118,7 +118,7 @@ impl Task {
     }
 
     fn write_here(self, room: &mut [u8], at: usize)
-        requires { ⌜ at + 256 ≤ length (now room) ⌝ }
+        requires { ⌜ at + taskSize ≤ length (now room) ⌝ }
         ensures { λ _. ⌜ now (room .exit) ≡ patch (now (room .entry)) at (taskBytes self) ⌝ }
     {
         let name = self.name;

@@ -2,6 +2,7 @@
 use Prim.Native.Nat.{ℕ, _+_, _-_}
 use mathlib.Core.Bool.{Bool, not, cond, _&&_}
 use lib.Dec.{eqb, leb, ltb}
+use Rattle.moment.specs.Moment.{momentSize}
 use Rattle.rules.specs.Masks.{withBit}
 use Rattle.rules.specs.States.{closing}
 use Rattle.moment.specs.declared.Moment.{Moment}
@@ -66,7 +67,7 @@ afterMoment r w end =
       rest =
           record {
             todo = w .rest .todo - 1;
-            left = w .rest .left - (32 + r .length);
+            left = w .rest .left - (momentSize + r .length);
             seen = withBit (w .rest .seen) (r .«data_type»);
             length = r .length;
           };

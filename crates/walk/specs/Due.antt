@@ -2,6 +2,12 @@
 use Prim.Native.Nat.{ℕ, _+_, _-_, _*_}
 use mathlib.Core.Bool.{Bool, true, false}
 use lib.Dec.{eqb}
+use Rattle.moment.specs.Moment.{momentSize}
+use Rattle.radial.specs.Radial.{radialSize}
+use Rattle.cut.specs.Cut.{cutSize}
+use Rattle.task.specs.Task.{taskSize}
+use Rattle.site.specs.Site.{siteSize}
+use Rattle.generic.specs.Generic.{genericSize}
 use Rattle.radial.specs.declared.RadialDue.{RadialDue}
 use Rattle.moment.specs.declared.MomentDue.{MomentDue}
 use Rattle.walk.specs.declared.due.Due.{Due}
@@ -22,12 +28,12 @@ atStart =
 
 -- how many bytes the due block has ("Blocks"); data has the length that its header said
 unfoldable pub sizeAt : Due → ℕ → ℕ
-sizeAt due.Generic n = 32
-sizeAt due.Site n = 128
-sizeAt due.Task n = 256
-sizeAt due.Cut n = 256
-sizeAt due.Radial n = 64
-sizeAt due.Moment n = 32
+sizeAt due.Generic n = genericSize
+sizeAt due.Site n = siteSize
+sizeAt due.Task n = taskSize
+sizeAt due.Cut n = cutSize
+sizeAt due.Radial n = radialSize
+sizeAt due.Moment n = momentSize
 sizeAt due.Data n = n
 sizeAt due.Nothing n = 0
 
@@ -83,4 +89,4 @@ momentDue w =
 
 -- where a cut's block stands: after the generic, site and task blocks, and the cuts before it
 abbrev pub cutPlace : ℕ → ℕ
-cutPlace c = 416 + 256 * (c - 1)
+cutPlace c = genericSize + siteSize + taskSize + cutSize * (c - 1)

@@ -137,7 +137,7 @@ pub fn moment(r: Moment, w: Walk, end: usize) -> Walk
     let rest = w.rest;
     let length = r.length as usize;
     let todo = less(rest.todo, 1);
-    let left = less(rest.left, 32 + length);
+    let left = less(rest.left, Moment::SIZE + length);
     let seen = masks::with_bit(rest.seen, r.data_type);
     Walk {
         due: Due::Data,

@@ -174,7 +174,7 @@ pub fn cut_place(cut: u32) -> usize
     ensures { λ r. ⌜ r ≡ cutPlace cut ⌝ }
 {
     if cut == 0 {
-        return 416;
+        return Generic::SIZE + Site::SIZE + Task::SIZE;
     }
-    416 + 256 * ((cut - 1) as usize)
+    Generic::SIZE + Site::SIZE + Task::SIZE + Cut::SIZE * ((cut - 1) as usize)
 }

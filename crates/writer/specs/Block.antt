@@ -10,12 +10,12 @@ use Rattle.moment.specs.declared.Moment.{Moment}
 use Rattle.radial.specs.declared.Radial.{Radial}
 use Rattle.site.specs.declared.Site.{Site}
 use Rattle.task.specs.declared.Task.{Task}
-use Rattle.cut.specs.Cut.{cutBytes}
-use Rattle.generic.specs.Generic.{genericBytes}
-use Rattle.moment.specs.Moment.{momentBytes}
-use Rattle.radial.specs.Radial.{radialBytes}
-use Rattle.site.specs.Site.{siteBytes}
-use Rattle.task.specs.Task.{taskBytes}
+use Rattle.cut.specs.Cut.{cutBytes, cutSize}
+use Rattle.generic.specs.Generic.{genericBytes, genericSize}
+use Rattle.moment.specs.Moment.{momentBytes, momentSize}
+use Rattle.radial.specs.Radial.{radialBytes, radialSize}
+use Rattle.site.specs.Site.{siteBytes, siteSize}
+use Rattle.task.specs.Task.{taskBytes, taskSize}
 use Rattle.walk.specs.declared.due.Due.{Due}
 use Rattle.walk.specs.declared.due.Due.the-variants as due
 use Rattle.walk.specs.declared.due.Walk.{Walk}
@@ -64,12 +64,12 @@ fitsOf («data» bs) w = eqb (length bs) (w .rest .length)
 
 -- how many bytes it has, and which ("Blocks")
 abbrev pub lengthOf : Block → ℕ
-lengthOf (generic r) = 32
-lengthOf (site r) = 128
-lengthOf (task r) = 256
-lengthOf (cut r) = 256
-lengthOf (radial r) = 64
-lengthOf (moment r) = 32
+lengthOf (generic r) = genericSize
+lengthOf (site r) = siteSize
+lengthOf (task r) = taskSize
+lengthOf (cut r) = cutSize
+lengthOf (radial r) = radialSize
+lengthOf (moment r) = momentSize
 lengthOf («data» bs) = length bs
 
 abbrev pub bytesOf : Block → List ℕ
