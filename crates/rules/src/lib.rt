@@ -1,5 +1,5 @@
-// What a field may hold, and how a list of rules is judged (document 01, "Field rules and refusal numbers"): each rule on
-// the field's bits, decided by the ranges of its number.
+// Rules that look beyond one field or serve more than one block (document 01, "Masks", "Tiling", "States"), and how a list
+// of rules is judged. Each is decided on the bits, by the ranges of its number; a block's other rules stand beside it.
 pub mod check;
 pub mod masks;
 pub mod ranges;
