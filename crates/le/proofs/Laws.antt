@@ -9,7 +9,7 @@ use native.Mathlib.Omega.{arith}
 use lib.Dec.{lit<, leb}
 use lib.Arith.{mod-mul}
 use lib.ListN.{length, getD, take, drop, set, length-append, length-take, length-drop, List·getD-eq-default, List·getD-append}
-use lib.Seq.{drop-cons, take-at, drop-append-add, drop-drop, getD-append-add, getD-take, getD-drop, length-take-le, take-all, drop-length, sets-eq, set-at, append-snoc, paste-zero}
+use lib.Seq.{drop-cons, take-at, drop-at, drop-append-add, drop-drop, getD-append-add, getD-take, getD-drop, length-take-le, take-all, drop-length, sets-eq, set-at, append-snoc, paste-zero}
 use borrow.Author.Tests.{le-leb, lt-leb}
 use Rattle.le.specs.Le.{le, bytes, part, patch, stored, Bytes, run, items}
 
@@ -154,6 +154,20 @@ part-part m n f at k h = part-same m (part n f at) f k (at + k) (λ i j. let e :
 
 pub le-part : (m n : ℕ) (f : List ℕ) (at k : ℕ) → k + m ≤ n → le m (part n f at) k ≡ le m f (at + k)
 le-part m n f at k h = sym (le-own m (part n f at) k) ∙ ap (λ (l : List ℕ). le m l 0) (part-part m n f at k h) ∙ le-own m f (at + k)
+
+-- a part past a list's end is zeros, and one that the end cuts short is what there is, put over zeros
+pub part-beyond : (n : ℕ) (f : List ℕ) (at : ℕ) → length f ≤ at → part n [] 0 ≡ part n f at
+part-beyond n f at h = part-same n [] f 0 at (λ i k. sym (List·getD-eq-default f 0 (omega arith)))
+
+pub part-short : (n : ℕ) (f : List ℕ) (at : ℕ) → at ≤ length f → length f ≤ at + n → patch (part n [] 0) 0 (take (length f - at) (drop at f)) ≡ part n f at
+unfolding patch
+part-short n f at h k =
+    let m = length f - at in
+    let e : m + (n - m) ≡ n = omega arith in
+    let zeros : drop m (part n [] 0) ≡ part (n - m) f (at + m) =
+    ap (drop m) (sym (part-join m (n - m) [] 0 ∙ ap (λ (j : ℕ). part j [] 0) e)) ∙ drop-at (part m [] 0) (part (n - m) [] (0 + m)) m (length-part m [] 0)
+    ∙ sym (part-beyond (n - m) [] (0 + m) (omega arith)) ∙ part-beyond (n - m) f (at + m) (omega arith) in
+    rw (part-here m f at (omega arith), length-part m f at, zero-add m, zeros) (part-join m (n - m) f at ∙ ap (λ (j : ℕ). part j f at) e)
 
 -- each byte of a part is a byte
 pub part-bytes : (n : ℕ) (f : List ℕ) (at : ℕ) → Bytes f → Bytes (part n f at)

@@ -1,5 +1,6 @@
 // Little-endian numbers and runs of bytes in a slice, read and written. Every function is total: a byte past the end
 // reads 0, and what does not fit is not written.
+ghost use mathlib.Core.List.{[]};
 ghost use mathlib.Core.Path.{_≡_};
 ghost use Prim.Native.Nat.{_+_, _*_, _≤_, _<_};
 ghost use lib.Dec.{leb};
@@ -22,7 +23,36 @@ pub fn u16_at(s: &[u8], at: usize) -> u16
     (byte(s, at) + 256 * byte(s, at + 1)) as u16
 }
 
+// The byte at a place that is there.
+fn byte_here(s: &[u8], at: usize) -> u32
+    requires { ⌜ at < length (now s) ⌝ }
+    ensures { λ r. ⌜ (r ≡ getD (now (s .entry)) at 0) × (r < 256) ⌝ }
+{
+    s[at] as u32
+}
+
+// Four bytes that are there. No test stands between the loads, so that they become one.
+fn four(s: &[u8], at: usize) -> u32
+    requires { ⌜ at + 4 ≤ length (now s) ⌝ }
+    ensures { λ r. ⌜ r ≡ le 4 (now (s .entry)) at ⌝ }
+{
+    byte_here(s, at)
+        + 256 * byte_here(s, at + 1)
+        + 65536 * byte_here(s, at + 2)
+        + 16777216 * byte_here(s, at + 3)
+}
+
 pub fn u32_at(s: &[u8], at: usize) -> u32
+    ensures { λ r. ⌜ r ≡ le 4 (now (s .entry)) at ⌝ }
+{
+    if has(s.len(), at, 4) {
+        return four(s, at);
+    }
+    u32_short(s, at)
+}
+
+// The same where the slice may end before the number does.
+fn u32_short(s: &[u8], at: usize) -> u32
     ensures { λ r. ⌜ r ≡ le 4 (now (s .entry)) at ⌝ }
 {
     if s.len() <= at {
@@ -85,28 +115,27 @@ pub fn copy_out(src: &[u8], at: usize, dst: &mut [u8])
     copy_short(src, at, dst);
 }
 
-// The byte i places after another; no sum of the two is made where it could be too large.
-fn byte_from(s: &[u8], at: usize, i: usize) -> u8
-    ensures { λ r. ⌜ r ≡ getD (now (s .entry)) (at + i) 0 ⌝ }
-{
-    if at < s.len() {
-        if i < s.len() - at {
-            return s[at + i];
-        }
-        return 0;
-    }
-    0
-}
-
-// The same where src may end before dst is full.
-fn copy_short(src: &[u8], at: usize, dst: &mut [u8])
-    ensures { λ _. ⌜ now (dst .exit) ≡ part (length (now (dst .entry))) (now (src .entry)) at ⌝ }
+fn clear(dst: &mut [u8])
+    ensures { λ _. ⌜ now (dst .exit) ≡ part (length (now (dst .entry))) [] 0 ⌝ }
 {
     let mut i = 0;
     while i < dst.len() {
-        dst[i] = byte_from(src, at, i);
+        dst[i] = 0;
         i += 1;
     }
+}
+
+// The same where src ends before dst is full: what there is, then zeros. It goes in two runs, and not byte by byte with a
+// test for each, so that a block's `read`, with this inside, stays small and is inlined wherever it is called.
+fn copy_short(src: &[u8], at: usize, dst: &mut [u8])
+    requires { ⌜ length (now src) < at + length (now dst) ⌝ }
+    ensures { λ _. ⌜ now (dst .exit) ≡ part (length (now (dst .entry))) (now (src .entry)) at ⌝ }
+{
+    clear(dst);
+    if src.len() <= at {
+        return;
+    }
+    put_here(dst, 0, &src[at..]);
 }
 
 fn put_here(room: &mut [u8], at: usize, src: &[u8])

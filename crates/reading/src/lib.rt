@@ -2,12 +2,15 @@
 ghost use mathlib.Core.Path.{_≡_};
 ghost use Prim.Native.Nat.{_≤_};
 ghost use lib.ListN.{length};
-ghost use Rattle.reading.specs.Reading.{Tells, advanceOf, stretches, nth, bytesOf};
+ghost use Rattle.reading.specs.Reading.{Tells, fuel, last, stop, advanceOf, stretches, nth, bytesOf};
 
 mod step;
+mod whole;
 
 use crate::step::Step;
 use crate::step::step_at;
+use crate::whole::radial_from;
+use walk::due::Due;
 use walk::due::Walk;
 use walk::due::ends_radial;
 
@@ -46,10 +49,34 @@ pub enum Found {
     Nowhere,
 }
 
+// Radial by radial while they are whole, and what is left block by block. `radial_from` and `by_steps` are called here and
+// in `advance_in`, so that both stay functions of their own: with one caller they would be inlined there, and every `advance`
+// would pay for it.
 pub fn read(file: &[u8]) -> Reading
     ensures { λ r. ⌜ Tells (now (file .entry)) r ⌝ }
 {
     let mut w = Walk::begin();
+    loop {
+        let due = w.due;
+        let next = if let Due::Radial = due {
+            radial_from(file, w)
+        } else {
+            by_steps(file, w)
+        };
+        let Onward::Whole(_, n) = next else {
+            return read_on(file, w);
+        };
+        w = n;
+    }
+}
+
+// What reading tells, by the blocks from one of its walks on.
+fn read_on(file: &[u8], from: Walk) -> Reading
+    requires { ⌜ from .at ≤ length (now file) ⌝ }
+    requires { ⌜ stop (now file) ≡ last (fuel (now file)) (now file) from ⌝ }
+    ensures { λ r. ⌜ Tells (now (file .entry)) r ⌝ }
+{
+    let mut w = from;
     loop {
         match step_at(file, w) {
             Step::Took(n) => {
@@ -91,6 +118,18 @@ pub fn advance(file: &[u8], from: Walk) -> Onward
 }
 
 fn advance_in(file: &[u8], from: Walk) -> Onward
+    requires { ⌜ from .at ≤ length (now file) ⌝ }
+    ensures { λ r. ⌜ r ≡ advanceOf (now (file .entry)) from ⌝ }
+{
+    let due = from.due;
+    if let Due::Radial = due {
+        return radial_from(file, from);
+    }
+    by_steps(file, from)
+}
+
+// The same block by block.
+fn by_steps(file: &[u8], from: Walk) -> Onward
     requires { ⌜ from .at ≤ length (now file) ⌝ }
     ensures { λ r. ⌜ r ≡ advanceOf (now (file .entry)) from ⌝ }
 {

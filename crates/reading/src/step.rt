@@ -36,7 +36,7 @@ pub enum Step {
 }
 
 // A block that keeps its rules is taken.
-fn settle(check: Check, at: usize, next: Walk) -> Step
+pub(crate) fn settle(check: Check, at: usize, next: Walk) -> Step
     requires { ⌜ at < 2 ^ 63 ⌝ }
     ensures { λ r. ⌜ r ≡ settleOf check at next ⌝ }
 {

@@ -39,14 +39,16 @@ fn tiles_ok(todo: usize, left: usize, x: u32) -> bool
     todo - 1 <= (left - block) / 33
 }
 
-// A multiple of bin length; of 0, only 0 is one.
+// A multiple of bin length; of 0, only 0 is one. The lengths that a gate can have are told with no division.
 fn multiple(bin: u16, x: u32) -> bool
     ensures { λ r. ⌜ r ≡ eqb (x % bin) 0 ⌝ }
 {
-    if bin == 0 {
-        return x == 0;
+    match bin {
+        0 => x == 0,
+        1 => true,
+        2 => x % 2 == 0,
+        _ => x % (bin as u32) == 0,
     }
-    x % (bin as u32) == 0
 }
 
 // Number 24 (table 3-2).

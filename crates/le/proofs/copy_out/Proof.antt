@@ -2,7 +2,7 @@ use mathlib.Core.Path.{sym, _∙_}
 use Prim.Native.Nat.{_+_, _≤_}
 use native.Mathlib.Omega.{arith}
 use borrow.Author.Needs.{needs}
-use borrow.Author.Tests.{leb-true}
+use borrow.Author.Tests.{leb-true, leb-false}
 use lib.ListN.{length}
 use Rattle.le.specs.Le.{part}
 use Rattle.le.proofs.Laws.{patch-all, length-part, part-is}
@@ -27,8 +27,11 @@ returns c =
     c .before .before .put-here .ensures
     ∙ rw (part-is n (s .src .now) (s .at) h) (patch-all (s .dst .now) (part n (s .src .now) (s .at)) (length-part n (s .src .now) (s .at)))
 
+copy-short-requires : tie.Need-copy-short-requires
+copy-short-requires c κs = leb-false _ _ (sym (c .before .before .has .ensures) ∙ c .before .if1 .left)
+
 pub copy-out-spec : {M : Type 1} → statement M
 copy-out-spec =
     tie.close
     (tie.spec (λ c κs. search needs) add-end (λ c. search needs) (λ c. search needs) part-end (λ c κs. search needs) (λ c. search needs) returns
-    (λ c κs. search needs) (λ c. search needs) (λ c. search needs))
+    copy-short-requires (λ c. search needs) (λ c. search needs))

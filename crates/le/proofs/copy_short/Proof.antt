@@ -1,42 +1,32 @@
--- The loop's invariant: the first i bytes are read. Assumes nothing.
-use mathlib.Core.Path.{_≡_, refl, _∙_}
-use mathlib.Core.List.{_++_, append-nil}
-use Prim.Native.Nat.{_-_, _≤_, zero-le}
+-- Zeros, and over them what the source has. Assumes nothing.
+use mathlib.Core.Path.{ap, _∙_}
+use mathlib.Core.List.{List}
+use Prim.Native.Nat.{ℕ, _-_}
 use native.Mathlib.Omega.{arith}
-use lib.ListN.{length, drop, length-set}
-use lib.Seq.{drop-length}
-use Rattle.le.specs.Le.{part}
-use Rattle.le.proofs.Laws.{part-turn}
+use borrow.Author.Needs.{needs}
+use lib.ListN.{length, take, drop}
+use Rattle.le.specs.Le.{patch}
+use Rattle.le.proofs.Laws.{part-beyond, part-short}
 use Rattle.le.proofs.copy_short.Statement.{statement}
 use Rattle.le.proofs.copy_short.Tie as tie
 
-abbrev Inv-loop : tie.InvT-loop
-Inv-loop src at dst₀ i₀ dst i = (i ≤ length dst₀) × (dst ≡ part i src at ++ drop i dst₀) × (length dst ≡ length dst₀)
-
-abbrev μ-loop : tie.MeasureT-loop
-μ-loop src at dst₀ i₀ dst i = length dst₀ - i
-
-loop-holds : tie.Need-loop-holds Inv-loop μ-loop
-unfolding part
-loop-holds c = (zero-le, refl, refl)
-
-loop-again : tie.Need-loop-again Inv-loop μ-loop
-loop-again c =
-    let l = c .before .before .loop in
-    let a = c .before .before .before .before .before .args in (
-      omega arith,
-      rw (l .inv .1) (part-turn (a .src .now) (a .at) (a .dst .now) (l .i) (c .byte-from .result) (omega arith) (c .byte-from .ensures)),
-      simp length-set (omega arith),
-    )
-
-returns : tie.Need-returns Inv-loop μ-loop
+returns : tie.Need-returns
 returns c =
-    let l = c .before .loop in
-    let a = c .before .before .before .before .args in
-    let all : l .i ≡ length (a .dst .now) = omega arith in
-    l .inv .1 ∙ rw (all, drop-length (a .dst .now), append-nil (part (length (a .dst .now)) (a .src .now) (a .at)))
+    let a = c .before .before .before .before .before .before .before .args in
+    c .before .before .before .clear .ensures ∙ part-beyond (length (a .dst .now)) (a .src .now) (a .at) (c .if1 .taken)
+
+returns-2 : tie.Need-returns-2
+returns-2 c =
+    let s = c .before .before .before .before .before .before .before .before .before .before .before .before in
+    let f = s .args .src .now in
+    let at = s .args .at in
+    let h = c .before .before .before .before .before .if1 .left in
+    c .before .before .put-here .ensures
+    ∙ ap (λ (d : List ℕ). patch d 0 (take (length f - at) (drop at f))) (c .before .before .before .before .before .before .before .before .clear .ensures)
+    ∙ part-short (length (s .args .dst .now)) f at (omega arith) (omega (arith, s .pre))
 
 pub copy-short-spec : {M : Type 1} → statement M
 copy-short-spec =
     tie.close
-    (tie.spec Inv-loop μ-loop loop-holds (λ c κs. omega arith) (λ c. omega arith) (λ c. omega arith) (λ c. omega arith) loop-again (λ c. omega arith) returns)
+    (tie.spec (λ c κs. search needs) (λ c. search needs) returns (λ c. search needs) (λ c. search needs) (λ c. search needs) (λ c κs. search needs)
+    (λ c. search needs) returns-2)

@@ -1,23 +1,11 @@
-use mathlib.Core.Path.{sym}
-use native.Mathlib.Omega.{arith}
-use native.Mathlib.Nat.{add-assoc}
+use mathlib.Core.Path.{sym, _∙_}
 use borrow.Author.Needs.{needs}
-use Rattle.le.specs.Le.{le}
-use Rattle.le.proofs.Laws.{le-beyond}
+use borrow.Author.Tests.{leb-true}
 use Rattle.le.proofs.u32_at.Statement.{statement}
 use Rattle.le.proofs.u32_at.Tie as tie
 
-returns : tie.Need-returns
-returns c = sym (le-beyond 4 (c .before .before .args .s .now) (c .before .before .args .at) (c .if1 .taken))
-
-returns-2 : tie.Need-returns-2
-unfolding le
-returns-2 c = simp add-assoc (omega arith)
+four-requires : tie.Need-four-requires
+four-requires c κs = leb-true _ _ (sym (c .before .has .ensures) ∙ c .if1 .taken)
 
 pub u32-at-spec : {M : Type 1} → statement M
-u32-at-spec =
-    tie.close
-    (tie.spec returns (λ c κs. search needs) (λ c. search needs) (λ c κs. search needs) (λ c. search needs) (λ c. search needs)
-    (λ c. search needs) (λ c κs. search needs) (λ c. search needs) (λ c. search needs)
-    (λ c. search needs) (λ c κs. search needs) (λ c. search needs) (λ c. search needs)
-    returns-2)
+u32-at-spec = tie.close (tie.spec (λ c κs. search needs) four-requires (λ c. search needs) (λ c κs. search needs) (λ c. search needs))

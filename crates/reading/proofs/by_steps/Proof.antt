@@ -9,8 +9,8 @@ use Rattle.reading.specs.Step.{stepOf}
 use Rattle.reading.specs.Reading.{advanceIf, advanceOf}
 use Rattle.reading.proofs.Run.{left, taken, stays}
 use Rattle.reading.proofs.Loops.{advance-step, advance-stops}
-use Rattle.reading.proofs.advance_in.Statement.{statement}
-use Rattle.reading.proofs.advance_in.Tie as tie
+use Rattle.reading.proofs.by_steps.Statement.{statement}
+use Rattle.reading.proofs.by_steps.Tie as tie
 
 abbrev Inv-loop : tie.InvT-loop
 Inv-loop file w₀ w = (w .at ≤ length file) × (advanceOf file w₀ ≡ advanceOf file w)
@@ -61,7 +61,7 @@ returns-4 c =
     let l = c .before .before .before in
     sym (l .loop .inv .1 ∙ advance-stops (l .before .before .args .file .now) (l .loop .w) (subst⁻¹ stays (sym (c .before .before .step-at .ensures) ∙ c .enum-told3 .given .1) tt))
 
-pub advance-in-spec : {M : Type 1} → statement M
-advance-in-spec =
+pub by-steps-spec : {M : Type 1} → statement M
+by-steps-spec =
     tie.close
     (tie.spec Inv-loop μ-loop loop-holds (λ c κs. search needs) (λ c. search needs) (λ c κs. search needs) returns loop-less loop-again (λ c. search needs) returns-2 (λ c. search needs) returns-3 (λ c. search needs) returns-4)
