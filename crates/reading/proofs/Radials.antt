@@ -1,24 +1,27 @@
 -- Every stretch that a walk passes is a whole radial: its header was accepted, and its moments tile it. The walk from a
 -- radial's header to its last data is followed step by step, and what is shown of one radial holds of each. Assumes nothing.
-use Prim.Native.Nat.{ℕ, zero, suc, _+_, _-_, _<_, _≤_}
+use Prim.Native.Nat.{ℕ, zero, suc, _+_, _-_, _*_, _%_, _<_, _≤_}
 use native.Mathlib.Omega.{arith}
 use mathlib.Core.Path.{_≡_, refl, sym, ap, subst, _∙_}
 use mathlib.Core.Bool.{Bool, true, false, not, _&&_}
 use mathlib.Core.List.{List, [], _∷_}
-use lib.Dec.{ltb, lit<}
+use lib.Dec.{eqb, leb, ltb, lit<}
+use lib.IntN.{pos}
 use lib.ListN.{length, take}
 use mir.Syntax.{w32}
-use borrow.Author.Tests.{eqb-true, eqb-false, lt-ltb, le-ltb, leb-true}
-use Rattle.le.proofs.Laws.{part-take}
+use borrow.Author.Tests.{eqb-true, eqb-false, lt-ltb, le-ltb, leb-true, leb-false}
+use Rattle.le.specs.Le.{le, int}
+use Rattle.le.proofs.Laws.{part-take, le-part}
 use Rattle.le.proofs.Tests.{both}
 use Rattle.rules.specs.Masks.{withBit}
-use Rattle.rules.specs.Tiling.{momentNumberOk}
-use Rattle.rules.specs.Ranges.{within}
-use Rattle.rules.proofs.Numbers.{by-bits}
+use Rattle.rules.specs.Tiling.{momentNumberOk, tiles, lengthOk}
+use Rattle.rules.specs.Ranges.{among}
+use Rattle.rules.proofs.Numbers.{least, exact}
 use Rattle.rules.specs.declared.check.Check.the-variants.{Fine}
 use Rattle.moment.specs.declared.Moment.{Moment}
+use Rattle.moment.specs.declared.MomentDue.{MomentDue}
 use Rattle.radial.specs.declared.Radial.{Radial}
-use Rattle.moment.specs.Moment.{momentOf, momentAt, momentCheck}
+use Rattle.moment.specs.Moment.{momentOf, momentAt, momentCheck, momentRules}
 use Rattle.radial.specs.Radial.{radialOf, radialAt, radialCheck, radialRules}
 use Rattle.rules.proofs.Judged.{all-hold}
 use Rattle.walk.specs.declared.due.Due.{Due}
@@ -50,10 +53,8 @@ moment-same f at = ap momentOf (part-take 32 f at (at + 32) (omega arith))
 -- ---- an accepted radial header announces a moment at least
 
 some-moment : (r k : ℕ) → momentNumberOk r k ≡ true → 1 ≤ k
-unfolding momentNumberOk within
-some-moment r k e =
-    let a : within 1 64 k ≡ true = sym (by-bits w32 1 64 k (lit< tt)) ∙ both _ _ e .0 in
-    leb-true 1 k (both _ _ a .0)
+unfolding momentNumberOk
+some-moment r k e = least w32 1 64 k (lit< tt) (both _ _ e .0)
 
 -- ---- what a walk still has before it, up to the end of the radial that becomes whole next
 
@@ -250,3 +251,42 @@ module _ (f : List ℕ) (P : List Stretch → Type 0) (none : P []) (one : (w : 
 -- every stretch of a file is a whole radial
 pub all-whole : (f : List ℕ) → AllWhole f (stretches f)
 all-whole f = each-radial f (AllWhole f) tt (λ w s ss o h r. (o .whole, r))
+
+-- ---- what a whole radial's header says: its cut, and where the radial ends
+
+-- a moment that keeps its rules fits in what is left, and the last leaves nothing
+fits-left : (h : Moment) (d : MomentDue) → momentCheck h d ≡ Fine → (32 + h .length ≤ d .left) × (d .todo ≤ 1 → 32 + h .length ≡ d .left)
+unfolding momentCheck lengthOk tiles
+fits-left h d e = go (leb (d .todo) 1) refl
+  where
+    well : tiles (d .todo) (d .left) (h .length) ≡ true
+    well = both (among (pos 1) (pos 32768) (int (h .length)) && eqb (h .length % h .«bin_length») 0) (tiles (d .todo) (d .left) (h .length)) (all-hold (momentRules h d) e .1 .1 .1 .1 .0) .1
+    go : (b : Bool) → leb (d .todo) 1 ≡ b → (32 + h .length ≤ d .left) × (d .todo ≤ 1 → 32 + h .length ≡ d .left)
+    go true q = let k = eqb-true (32 + h .length) (d .left) (rw q at well) in (omega arith, λ few. k)
+    go false q =
+        let k = leb-true (32 + h .length + 33 * (d .todo - 1)) (d .left) (rw q at well) in
+        let g = leb-false (d .todo) 1 q in
+        (omega arith, λ few. absurd (omega arith))
+
+-- so moments that tile end where the bytes left for them do
+tiled-end : (f : List ℕ) (mask sizes seen left todo at end : ℕ) → Tiled f mask sizes seen left todo at end → 1 ≤ todo → end ≡ at + left
+tiled-end f mask sizes seen left zero at end t h = absurd (omega arith)
+tiled-end f mask sizes seen left (suc zero) at end (more g none) h = let l = fits-left (momentAt f at) _ g .1 (omega arith) in omega arith
+tiled-end f mask sizes seen left (suc (suc k)) at end (more g r) h =
+    let l = fits-left (momentAt f at) _ g .0 in
+    let e = tiled-end f mask sizes _ _ (suc k) _ end r (omega arith) in
+    omega arith
+
+pub record Said (f : List ℕ) (s : Stretch) : Type 0 where
+  pub cut : s .cut ≡ le 4 f (s .start + 16)
+  pub end : s .end ≡ s .start + 64 + le 4 f (s .start + 36)
+
+pub said : (f : List ℕ) (s : Stretch) → WholeRadial f s → Said f s
+unfolding radialAt radialOf radialCheck
+said f s x =
+    let h = all-hold (radialRules (radialAt f (s .start)) (x .against)) (x .header) in
+    let some = some-moment _ _ (h .1 .1 .1 .1 .1 .1 .1 .1 .1 .1 .0) in
+    record {
+      cut = x .cut ∙ sym (exact _ _ (h .1 .1 .1 .1 .0)) ∙ le-part 4 64 f (s .start) 16 (omega arith);
+      end = tiled-end f _ _ _ _ _ _ _ (x .moments) some ∙ ap (λ (n : ℕ). s .start + 64 + n) (le-part 4 64 f (s .start) 36 (omega arith));
+    }

@@ -12,10 +12,11 @@ use lib.Pow.{pow-lt}
 use mir.Syntax.{Width, w32}
 use mir.Val.{hbits, toZ}
 use mir.ValLaws.{toZ-pos}
-use borrow.Author.Tests.{le-leb, lt-leb, le-ltb, lt-ltb, eq-eqb, ne-eqb, eqb-true}
-use Rattle.le.proofs.Tests.{eqb-same}
+use borrow.Author.Tests.{le-leb, lt-leb, le-ltb, lt-ltb, eq-eqb, ne-eqb, leb-true, eqb-true}
+use Rattle.le.specs.Le.{int}
+use Rattle.le.proofs.Tests.{both, eqb-same}
 use Rattle.rules.specs.States.{rhi, mostCuts, opening, closing}
-use Rattle.rules.specs.Ranges.{among, within, notBelowZero, counts, countsInCut}
+use Rattle.rules.specs.Ranges.{among, is, within, notBelowZero, counts, countsInCut}
 
 and-false : (b : Bool) → (b && false) ≡ false
 and-false true = refl
@@ -117,10 +118,17 @@ pub closing-small : (scan cuts cut : ℕ) → closing scan cuts cut < 2147483648
 unfolding closing
 closing-small scan cuts cut = small-if (ltb cut cuts) 2 (cond (rhi scan) 6 4) 2147483648 (lit< tt) (small-if (rhi scan) 6 4 2147483648 (lit< tt) (lit< tt))
 
--- a count that is right is one more than what was counted before it
+-- what a range, an exact number and a right count say of the number
+pub least : (w : Width) (lo hi x : ℕ) → hi < 2 ^ hbits w → among (pos lo) (pos hi) (toZ w x) ≡ true → lo ≤ x
+unfolding within
+least w lo hi x h e = leb-true lo x (both _ _ (sym (by-bits w lo hi x h) ∙ e) .0)
+
+pub exact : (n x : ℕ) → is n (int x) ≡ true → x ≡ n
+exact n x e =
+    dite (decLt x 2147483648)
+    (λ h. eqb-true x n (sym (exactly-clear w32 n x h) ∙ e))
+    (λ h. let k = exactly-set w32 n x (omega arith) in absurd (let z : _≡_ {A = ℕ} 0 1 = cc in omega arith))
+
 pub counts-is : (before n : ℕ) → counts before n ≡ true → n ≡ before + 1
 unfolding counts
-counts-is before n e =
-    dite (decLt n 2147483648)
-    (λ h. eqb-true n (before + 1) (sym (exactly-clear w32 (before + 1) n h) ∙ e))
-    (λ h. let k = exactly-set w32 (before + 1) n (omega arith) in absurd (let z : _≡_ {A = ℕ} 0 1 = cc in omega arith))
+counts-is before n e = exact (before + 1) n e
