@@ -1,5 +1,6 @@
 pub mod Same
 pub mod Walked
+pub mod Chained
 pub mod Sections
 pub mod Agree
 pub mod Filled

@@ -6,7 +6,7 @@ use native.Mathlib.Nat.{le-refl, le-trans}
 use native.Mathlib.Omega.{arith}
 use mathlib.Core.Bool.{Bool, true, false, not, cond, _&&_}
 use mathlib.Core.List.{List, [], _∷_}
-use mathlib.Core.Path.{_≡_, refl, sym, ap, subst, _∙_}
+use mathlib.Core.Path.{_≡_, refl, ap, subst, _∙_}
 use borrow.Author.Tests.{ne-eqb}
 use lib.Dec.{ltb}
 use lib.ListN.{take}
@@ -16,16 +16,13 @@ use Rattle.task.specs.Task.{taskAt, taskOf}
 use Rattle.walk.specs.declared.due.Due.{Due}
 use Rattle.walk.specs.declared.due.Due.the-variants as due
 use Rattle.walk.specs.declared.due.Walk.{Walk}
-use Rattle.reading.specs.declared.Onward.{Onward}
-use Rattle.reading.specs.declared.Onward.the-variants.{Whole, Stopped}
 use Rattle.reading.specs.declared.Stretch.{Stretch}
 use Rattle.reading.specs.declared.step.Step.the-variants.{Took}
 use Rattle.walk.specs.After.{afterData, closesCut}
 use Rattle.walk.specs.Due.{sizeAt, isEnd, endsRadial, atStart}
-use Rattle.reading.specs.Reading.{fuel, stop, ending, stretchIf, stretchOf, trace, stretches, advanceOf, told}
+use Rattle.reading.specs.Reading.{fuel, stop, ending, stretchIf, stretchOf, stretches, told}
 use Rattle.reading.specs.Step.{takeGeneric, takeSite, takeTask, takeCut, takeRadial, takeMoment, takeData, blockAt}
 use Rattle.reading.proofs.Grown.{step-done}
-use Rattle.reading.proofs.Loops.{further, no-more}
 use Rattle.reading.proofs.Run.{ended, settle-took, took-inj, due-either, ends-data, taken, run-holds, last-holds}
 use Rattle.index.specs.Index.{radialsIn}
 
@@ -108,7 +105,7 @@ Planned f due.Data w = w .plan .cuts ≡ le 4 f 336
 Planned f due.Nothing w = w .plan .cuts ≡ le 4 f 336
 
 -- the task's field, read from the file up to the task's end
-cut-number : (f : List ℕ) (at : ℕ) → taskAt (take (at + 256) f) at .«cut_number» ≡ le 4 f (at + 176)
+pub cut-number : (f : List ℕ) (at : ℕ) → taskAt (take (at + 256) f) at .«cut_number» ≡ le 4 f (at + 176)
 unfolding taskAt taskOf
 cut-number f at = ap (λ (p : List ℕ). taskOf p .«cut_number») (part-take 256 f at (at + 256) (omega arith)) ∙ le-part 4 256 f at 176 (omega arith)
 
@@ -143,17 +140,3 @@ unfolding Planned
 cuts-read f e =
     planned-end f (stop f .due) (stop f) (ended f (stop f) (step-done (ending f) e) .0)
     (last-holds f (λ w. Planned f (w .due) w) (λ w m q h. planned-on f (w .due) w m h (taken f w m q .block)) (fuel f) atStart refl)
-
--- ---- the radials that are still to come, by what an advance comes to
-
-unfoldable pub ahead : List ℕ → Onward → List Stretch
-ahead f (Whole s n) = s ∷ trace (fuel f) f n
-ahead f (Stopped w) = []
-
-pub ahead-is : (f : List ℕ) (w : Walk) → ahead f (advanceOf f w) ≡ trace (fuel f) f w
-unfolding ahead
-ahead-is f w = go (advanceOf f w) refl
-  where
-    go : (o : Onward) → advanceOf f w ≡ o → ahead f o ≡ trace (fuel f) f w
-    go (Whole s n) e = sym (further f w s n e .more)
-    go (Stopped v) e = sym (no-more f w v e)

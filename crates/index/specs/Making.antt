@@ -1,12 +1,13 @@
--- How an index is made in one pass over the radials: what the private functions promise. Who reads "The house index"
--- (document 01) needs nothing of it.
+-- How an index is made in one pass over the radials' headers: what the private functions promise. Who reads "The house
+-- index" (document 01) needs nothing of it.
 use Prim.Native.Nat.{ℕ, _+_, _*_}
 use mathlib.Core.Bool.{cond, _&&_}
 use mathlib.Core.List.{List}
-use lib.Dec.{leb, ltb}
+use lib.Dec.{eqb, leb, ltb}
 use lib.ListN.{length}
-use Rattle.reading.specs.declared.Onward.{Onward}
-use Rattle.reading.specs.declared.Onward.the-variants.{Whole, Stopped}
+use Rattle.le.specs.Le.{le}
+use Rattle.cut.specs.Cut.{cutSize}
+use Rattle.walk.specs.Due.{cutPlace}
 use Rattle.reading.specs.Reading.{stop, stretches}
 use Rattle.index.specs.declared.making.Entry.{Entry}
 use Rattle.index.specs.declared.making.Entry.the-variants.{Count, Place, End}
@@ -15,10 +16,18 @@ use Rattle.index.specs.declared.Layout.the-variants.{Fits, Short, Unfini
 use Rattle.index.specs.Answer.{complete}
 use Rattle.index.specs.Index.{startOf}
 
--- the entry due: the count of a cut that has no further radial, else a radial's place, else none ("The house index")
-unfoldable pub entryOf : Onward → ℕ → ℕ → Entry
-entryOf (Whole s n) cut cuts = cond (leb cut cuts && ltb cut (s .cut)) Count (Place s n)
-entryOf (Stopped w) cut cuts = cond (leb cut cuts) Count End
+-- the number of cuts in a file's bytes: the task's, which stands behind the generic and site blocks ("Blocks")
+abbrev pub cutsIn : List ℕ → ℕ
+cutsIn f = le 4 f 336
+
+-- where the first radial starts: behind the last cut's block ("Blocks")
+abbrev pub firstRadial : ℕ → ℕ
+firstRadial cuts = cutPlace cuts + cutSize
+
+-- the entry due, by how many radials are to come and the cut of the next: the count of a cut that has no further radial,
+-- else a radial's place, else none ("The house index")
+unfoldable pub entryOf : ℕ → ℕ → ℕ → ℕ → Entry
+entryOf left next cut cuts = cond (eqb left 0) (cond (leb cut cuts) Count End) (cond (leb cut cuts && ltb cut next) Count Place)
 
 -- where the second section starts: behind the start and 2 bytes for each cut ("The house index")
 abbrev pub secondAt : ℕ → ℕ

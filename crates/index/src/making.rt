@@ -1,48 +1,61 @@
-// An index made in one pass over the whole radials. They come cut by cut, so the two sections grow side by side: a radial's
-// place goes into the second, and once a cut has no further radial its count goes into the first. One loop puts the
-// entries into a room, the other compares them with an index.
+// An index made in one pass over the headers of the whole radials, which stand one behind the other: a header says its cut
+// and where its radial ends. They come cut by cut, so the two sections grow side by side: a radial's place goes into the
+// second, and once a cut has no further radial its count goes into the first. One loop puts the entries into a room, the
+// other compares them with an index.
 ghost use mathlib.Core.Path.{_≡_};
-ghost use Prim.Native.Nat.{_%_, _≤_};
+ghost use Prim.Native.Nat.{_+_, _%_, _^_, _≤_, _<_};
 ghost use lib.ListN.{length};
 ghost use Rattle.le.specs.Le.{patch};
+ghost use Rattle.radial.specs.Radial.{radialSize};
 ghost use Rattle.reading.specs.Reading.{stretches};
 ghost use Rattle.index.specs.Answer.{same};
 ghost use Rattle.index.specs.Index.{startOf, indexFor};
-ghost use Rattle.index.specs.Making.{secondAt, entryOf};
-use reading::Onward;
-use reading::Stretch;
-use walk::due::Walk;
+ghost use Rattle.index.specs.Making.{secondAt, cutsIn, firstRadial, entryOf};
+use cut::Cut;
+use radial::Radial;
+use walk::due::cut_place;
 
 enum Entry {
     // The count of a cut that has no further radial.
     Count,
-    // The place of a radial, and the walk after it.
-    Place(Stretch, Walk),
+    // The place of a radial.
+    Place,
     // No further entry.
     End,
 }
 
-// Which entry is due, by what comes next in the file and by the cut that is being counted.
-fn entry_due(next: Onward, cut: usize, cuts: u32) -> Entry
-    ensures { λ r. ⌜ r ≡ entryOf next cut cuts ⌝ }
+// Which entry is due, by how many radials are to come, the header of the next, and the cut that is being counted.
+fn entry_due(left: usize, header: Radial, cut: usize, cuts: u32) -> Entry
+    ensures { λ r. ⌜ r ≡ entryOf left (header .«elevation_number») cut cuts ⌝ }
 {
-    match next {
-        Onward::Whole(s, n) => {
-            if (cuts as usize) < cut {
-                return Entry::Place(s, n);
-            }
-            if cut < s.cut as usize {
-                return Entry::Count;
-            }
-            Entry::Place(s, n)
+    if left == 0 {
+        if (cuts as usize) < cut {
+            return Entry::End;
         }
-        Onward::Stopped(_) => {
-            if (cuts as usize) < cut {
-                return Entry::End;
-            }
-            Entry::Count
-        }
+        return Entry::Count;
     }
+    if (cuts as usize) < cut {
+        return Entry::Place;
+    }
+    if cut < header.elevation_number as usize {
+        return Entry::Count;
+    }
+    Entry::Place
+}
+
+// Where the first radial starts: behind the last cut's block.
+fn first_radial(cuts: u32) -> usize
+    ensures { λ r. ⌜ r ≡ firstRadial cuts ⌝ }
+{
+    cut_place(cuts) + Cut::SIZE
+}
+
+// Where the radial behind one starts that has this place and header.
+fn behind(at: usize, header: Radial) -> usize
+    requires { ⌜ at < 2 ^ 63 ⌝ }
+    ensures { λ r. ⌜ r ≡ at + radialSize + header .«length_of_data» ⌝ }
+{
+    at + Radial::SIZE + (header.length_of_data as usize)
 }
 
 // How long the start of an index is, and its bytes.
@@ -75,6 +88,7 @@ fn word(count: usize) -> u32
 }
 
 pub(crate) fn put(file: &[u8], room: &mut [u8], cuts: u32, radials: usize)
+    requires { ⌜ cuts ≡ cutsIn (now file) ⌝ }
     requires { ⌜ radials ≡ length (stretches (now file)) ⌝ }
     requires { ⌜ length (indexFor cuts (stretches (now file))) ≤ length (now room) ⌝ }
     ensures { λ _. ⌜ now (room .exit) ≡ patch (now (room .entry)) 0 (indexFor cuts (stretches (now (file .entry)))) ⌝ }
@@ -86,20 +100,23 @@ pub(crate) fn put(file: &[u8], room: &mut [u8], cuts: u32, radials: usize)
     second += 4;
     let mut cut = 1;
     let mut count = 0;
-    let mut next = reading::advance(file, Walk::begin());
+    let mut at = first_radial(cuts);
+    let mut left = radials;
     loop {
-        match entry_due(next, cut, cuts) {
+        let header = Radial::read(file, at);
+        match entry_due(left, header, cut, cuts) {
             Entry::Count => {
                 le::put_u16(room, first, half(count));
                 first += 2;
                 cut += 1;
                 count = 0;
             }
-            Entry::Place(s, n) => {
-                le::put_u64(room, second, s.start as u64);
+            Entry::Place => {
+                le::put_u64(room, second, at as u64);
                 second += 8;
                 count += 1;
-                next = reading::advance(file, n);
+                at = behind(at, header);
+                left -= 1;
             }
             Entry::End => {
                 return;
@@ -109,6 +126,7 @@ pub(crate) fn put(file: &[u8], room: &mut [u8], cuts: u32, radials: usize)
 }
 
 pub(crate) fn stands(file: &[u8], index: &[u8], cuts: u32, radials: usize) -> bool
+    requires { ⌜ cuts ≡ cutsIn (now file) ⌝ }
     requires { ⌜ radials ≡ length (stretches (now file)) ⌝ }
     requires { ⌜ length (now index) ≡ length (indexFor cuts (stretches (now file))) ⌝ }
     ensures { λ r. ⌜ r ≡ same (indexFor cuts (stretches (now (file .entry)))) (now (index .entry)) ⌝ }
@@ -125,9 +143,11 @@ pub(crate) fn stands(file: &[u8], index: &[u8], cuts: u32, radials: usize) -> bo
     second += 4;
     let mut cut = 1;
     let mut count = 0;
-    let mut next = reading::advance(file, Walk::begin());
+    let mut at = first_radial(cuts);
+    let mut left = radials;
     loop {
-        match entry_due(next, cut, cuts) {
+        let header = Radial::read(file, at);
+        match entry_due(left, header, cut, cuts) {
             Entry::Count => {
                 if le::u16_at(index, first) != half(count) {
                     return false;
@@ -136,13 +156,14 @@ pub(crate) fn stands(file: &[u8], index: &[u8], cuts: u32, radials: usize) -> bo
                 cut += 1;
                 count = 0;
             }
-            Entry::Place(s, n) => {
-                if le::u64_at(index, second) != s.start as u64 {
+            Entry::Place => {
+                if le::u64_at(index, second) != at as u64 {
                     return false;
                 }
                 second += 8;
                 count += 1;
-                next = reading::advance(file, n);
+                at = behind(at, header);
+                left -= 1;
             }
             Entry::End => {
                 return true;

@@ -10,8 +10,8 @@ use lib.IntN.{pos}
 use lib.ListN.{length, take}
 use mir.Syntax.{w32}
 use borrow.Author.Tests.{eqb-true, eqb-false, lt-ltb, le-ltb, leb-true, leb-false}
-use Rattle.le.specs.Le.{le, int}
-use Rattle.le.proofs.Laws.{part-take, le-part}
+use Rattle.le.specs.Le.{int}
+use Rattle.le.proofs.Laws.{part-take}
 use Rattle.le.proofs.Tests.{both}
 use Rattle.rules.specs.Masks.{withBit}
 use Rattle.rules.specs.Tiling.{momentNumberOk, tiles, lengthOk}
@@ -261,6 +261,7 @@ fits-left h d e = go (leb (d .todo) 1) refl
   where
     well : tiles (d .todo) (d .left) (h .length) ≡ true
     well = both (among (pos 1) (pos 32768) (int (h .length)) && eqb (h .length % h .«bin_length») 0) (tiles (d .todo) (d .left) (h .length)) (all-hold (momentRules h d) e .1 .1 .1 .1 .0) .1
+
     go : (b : Bool) → leb (d .todo) 1 ≡ b → (32 + h .length ≤ d .left) × (d .todo ≤ 1 → 32 + h .length ≡ d .left)
     go true q = let k = eqb-true (32 + h .length) (d .left) (rw q at well) in (omega arith, λ few. k)
     go false q =
@@ -278,15 +279,14 @@ tiled-end f mask sizes seen left (suc (suc k)) at end (more g r) h =
     omega arith
 
 pub record Said (f : List ℕ) (s : Stretch) : Type 0 where
-  pub cut : s .cut ≡ le 4 f (s .start + 16)
-  pub end : s .end ≡ s .start + 64 + le 4 f (s .start + 36)
+  pub cut : s .cut ≡ radialAt f (s .start) .«elevation_number»
+  pub end : s .end ≡ s .start + 64 + radialAt f (s .start) .«length_of_data»
 
 pub said : (f : List ℕ) (s : Stretch) → WholeRadial f s → Said f s
-unfolding radialAt radialOf radialCheck
+unfolding radialCheck
 said f s x =
     let h = all-hold (radialRules (radialAt f (s .start)) (x .against)) (x .header) in
-    let some = some-moment _ _ (h .1 .1 .1 .1 .1 .1 .1 .1 .1 .1 .0) in
     record {
-      cut = x .cut ∙ sym (exact _ _ (h .1 .1 .1 .1 .0)) ∙ le-part 4 64 f (s .start) 16 (omega arith);
-      end = tiled-end f _ _ _ _ _ _ _ (x .moments) some ∙ ap (λ (n : ℕ). s .start + 64 + n) (le-part 4 64 f (s .start) 36 (omega arith));
+      cut = x .cut ∙ sym (exact _ _ (h .1 .1 .1 .1 .0));
+      end = tiled-end f _ _ _ _ _ _ _ (x .moments) (some-moment _ _ (h .1 .1 .1 .1 .1 .1 .1 .1 .1 .1 .0));
     }

@@ -35,7 +35,7 @@ stands-requires c κs =
     let l = f .long in
     let h = f .room in
     let k = c .if1 .left in
-    (f .count, rw (f .index) (omega arith))
+    (f .said, (f .count, rw (f .index) (omega arith)))
 
 returns-2 : tie.Need-returns-2
 unfolding rightFor

@@ -19,7 +19,7 @@ fits : (c : tie.After-known-told) → let a = c .before .before .before .before 
 fits c = says _ _ _ (sym (c .before .before .before .layout-of .ensures) ∙ c .before .cuts .given .1)
 
 put-requires : tie.Need-put-requires
-put-requires c κs = let f = fits (c .before) in (f .count, rw (f .index) (f .room))
+put-requires c κs = let f = fits (c .before) in (f .said, (f .count, rw (f .index) (f .room)))
 
 returns : tie.Need-returns
 unfolding toldIndex answerOf roomOf
