@@ -1,12 +1,10 @@
-use Prim.Native.Nat.{ℕ, _+_}
-use mathlib.Core.Path.{sym, ap₂}
+use Prim.Native.Nat.{_+_}
+use mathlib.Core.Path.{sym}
 use native.Mathlib.Omega.{arith}
 use borrow.Author.Needs.{needs}
-use Rattle.radial.specs.Radial.{radialCheck}
 use Rattle.walk.specs.After.{afterRadial}
-use Rattle.walk.specs.Due.{cutPlace, radialDue}
-use Rattle.reading.specs.Step.{settle, takeRadial, cutIn}
-use Rattle.reading.proofs.Masks.{mask-at, sizes-at}
+use Rattle.reading.specs.Step.{takeRadial, cutIn}
+use Rattle.reading.proofs.Masks.{by-masks}
 use Rattle.writer.specs.Block.{radial}
 use Rattle.writer.proofs.Putting.{has-passed, puts-taken, puts-refused}
 use Rattle.writer.proofs.on.radial_on.Statement.{statement}
@@ -31,10 +29,9 @@ returns c =
     let placed = masks .before .before .before .before in
     let a = placed .before .before .args in
     let room = a .room .now in
-    let place = cutPlace (a .w .count .cut) in
     puts-taken (radial (a .r)) (a .w) (c .before .radial .result) room (checked .check .result)
     (rw (checked .check .ensures, checked .before .radial-due .ensures, c .before .radial .ensures, masks .u64-at2 .ensures, masks .before .before .u64-at .ensures, placed .cut-place .ensures)
-    (sym (ap₂ (λ (m z : ℕ). settle (radialCheck (a .r) (radialDue (a .w))) (a .w .at) (afterRadial (a .r) m z (a .w) (a .w .at + 64))) (mask-at room place) (sizes-at room place))))
+    (sym (by-masks room (a .w) (a .r))))
     (answered .answer-to .ensures) (told .enum-told .given .1) (written .write .ensures) (c .taken .ensures)
 
 returns-2 : tie.Need-returns-2
