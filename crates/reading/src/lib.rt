@@ -50,8 +50,8 @@ pub enum Found {
 }
 
 // Radial by radial while they are whole, and what is left block by block. `radial_from` and `by_steps` are called here and
-// in `advance_in`, so that both stay functions of their own: with one caller they would be inlined there, and every `advance`
-// would pay for it.
+// in `advance_in`, so that both stay functions of their own: with one caller they would be inlined into `advance`, and each
+// question would take longer.
 pub fn read(file: &[u8]) -> Reading
     ensures { λ r. ⌜ Tells (now (file .entry)) r ⌝ }
 {
@@ -117,6 +117,8 @@ pub fn advance(file: &[u8], from: Walk) -> Onward
     advance_in(file, from)
 }
 
+// In one go where a radial header is due. The choice is a function of its own: where it is made in `advance`, the compiler
+// copies the walk once more for each radial.
 fn advance_in(file: &[u8], from: Walk) -> Onward
     requires { ⌜ from .at ≤ length (now file) ⌝ }
     ensures { λ r. ⌜ r ≡ advanceOf (now (file .entry)) from ⌝ }

@@ -1,7 +1,7 @@
 // A radial in one go: from where its header is due on to where it is whole, or where the walk stops. A step here is that of
-// `step_at` for the one block that is due, written a second time: each function has one caller, so that all of them become
-// one loop that keeps the walk in registers. With a second caller a step is no longer inlined, and at each block the walk
-// goes through memory, which takes twice as long: what else wants a step calls `step_at`.
+// `step_at` for the one block that is due, written a second time. Each function but the last has one caller, so that they
+// all become one loop, which keeps the walk in registers; a step with a second caller is not inlined, at each block the
+// walk goes through memory, and reading takes twice as long. Whoever else wants a step calls `step_at`.
 ghost use mathlib.Core.Path.{_≡_};
 ghost use Prim.Native.Nat.{_≤_};
 ghost use lib.ListN.{length};
