@@ -5,7 +5,7 @@ use native.Mathlib.Omega.{arith}
 use mathlib.Core.Bool.{Bool, true, false, not, _&&_}
 use mathlib.Core.List.{List, [], _∷_}
 use mathlib.Core.Path.{_≡_, refl, sym, ap, subst, _∙_}
-use borrow.Author.Tests.{eqb-true, eqb-false, leb-true, leb-false, lt-ltb, le-ltb}
+use borrow.Author.Tests.{eqb-true, eqb-false, leb-true, leb-false}
 use lib.Dec.{leb, ltb}
 use lib.ListN.{length, take}
 use mir.Syntax.{w32}
@@ -20,14 +20,14 @@ use Rattle.walk.specs.declared.due.Due.{Due}
 use Rattle.walk.specs.declared.due.Due.the-variants as due
 use Rattle.walk.specs.declared.due.Walk.{Walk}
 use Rattle.walk.specs.Due.{sizeAt, dueIf, endsRadial, atStart}
-use Rattle.walk.specs.After.{afterData, afterDataIf, closesCut, afterCut}
+use Rattle.walk.specs.After.{closesCut, afterCut}
 use Rattle.reading.specs.declared.Stretch.{Stretch}
 use Rattle.reading.specs.declared.step.Step.the-variants.{Took}
 use Rattle.reading.specs.Step.{takeGeneric, takeSite, takeTask, takeCut, takeRadial, takeMoment, takeData, blockAt}
 use Rattle.reading.specs.Reading.{fuel, stretchIf, stretchOf, stretches}
 use Rattle.reading.proofs.Counts.{settle-fine}
 use Rattle.reading.proofs.Radials.{Said, said, each-radial}
-use Rattle.reading.proofs.Run.{settle-took, took-inj, due-either, taken, run-holds}
+use Rattle.reading.proofs.Run.{settle-took, dataThen, took-more, took-last, due-either, taken, run-holds}
 use Rattle.index.specs.Making.{cutsIn, firstRadial}
 use Rattle.index.proofs.Walked.{cut-number}
 
@@ -84,18 +84,12 @@ module _ (f : List ℕ) (w m : Walk) (t : List Stretch) (later : Linked f (m .du
       go false q l = let k = leb-false (w .rest .todo) 1 q in subst (λ (x : ℕ). Row x t) (omega arith) (rw q at l (omega arith))
 
   by-data : takeData w ≡ Took m → (b : Bool) → endsRadial due.Data (w .rest .todo) ≡ b → Row (w .present .start) (stretchIf b w m t)
-  unfolding takeData afterData endsRadial stretchIf Linked dueIf Row
+  unfolding endsRadial stretchIf Linked dueIf Row
   by-data e true q =
-      let n = eqb-true (w .rest .todo) 0 q in
-      let v = afterDataIf false (closesCut w) (ltb (w .count .cut) (w .plan .cuts)) w (w .at + w .rest .length) in
-      let a = ap (λ (b : Bool). afterDataIf b (closesCut w) (ltb (w .count .cut) (w .plan .cuts)) w (w .at + w .rest .length)) (le-ltb 0 (w .rest .todo) (omega arith)) in
-      let g = due-either (λ d x. Linked f d x t → Row (x .at) t) (closesCut w && not (ltb (w .count .cut) (w .plan .cuts))) due.Nothing due.Radial v (λ x. x) (λ x. x) in
-      let s = sym a ∙ took-inj _ m e in
-      (refl, subst (λ (x : Walk). Row (x .at) t) s (g (moved v s)))
-  by-data e false q =
-      let n = eqb-false (w .rest .todo) 0 q in
-      let a = ap (λ (b : Bool). afterDataIf b (closesCut w) (ltb (w .count .cut) (w .plan .cuts)) w (w .at + w .rest .length)) (lt-ltb 0 (w .rest .todo) (omega arith)) in
-      moved (afterDataIf true (closesCut w) (ltb (w .count .cut) (w .plan .cuts)) w (w .at + w .rest .length)) (sym a ∙ took-inj _ m e)
+      let s = took-last w m (eqb-true (w .rest .todo) 0 q) e in
+      let g = due-either (λ d x. Linked f d x t → Row (x .at) t) (closesCut w && not (ltb (w .count .cut) (w .plan .cuts))) due.Nothing due.Radial (dataThen false w) (λ x. x) (λ x. x) in
+      (refl, subst (λ (x : Walk). Row (x .at) t) s (g (moved (dataThen false w) s)))
+  by-data e false q = let n = eqb-false (w .rest .todo) 0 q in moved (dataThen true w) (took-more w m (omega arith) e)
 
   linked-on : (d : Due) → blockAt d (take (w .at + sizeAt d (w .rest .length)) f) w ≡ Took m → Linked f d w (stretchIf (endsRadial d (w .rest .todo)) w m t)
   unfolding blockAt takeGeneric takeSite takeRadial takeMoment sizeAt endsRadial stretchIf Linked

@@ -3,26 +3,24 @@
 use Prim.Native.Nat.{ℕ, _+_, _-_, _<_, _≤_}
 use native.Mathlib.Omega.{arith}
 use mathlib.Core.Path.{_≡_, refl, sym, ap, subst, subst⁻¹, _∙_}
-use mathlib.Core.Bool.{Bool, true, false}
+use mathlib.Core.Bool.{true, false}
 use mathlib.Core.List.{List, [], _∷_}
-use lib.Dec.{ltb}
 use lib.ListN.{length, take}
-use borrow.Author.Tests.{lt-ltb, eq-eqb, ne-eqb}
+use borrow.Author.Tests.{eq-eqb, ne-eqb}
 use denote.Enum.Declared.{tagOf}
 use types.Run.{OneOf, miss}
 use Rattle.walk.specs.declared.due.Due.{Due}
 use Rattle.walk.specs.declared.due.Due.the-variants as due
 use Rattle.walk.specs.declared.due.Walk.{Walk}
 use Rattle.walk.specs.Due.{sizeAt, isEnd, endsRadial, dueIf}
-use Rattle.walk.specs.After.{afterData, afterDataIf, closesCut}
 use Rattle.reading.specs.declared.Onward.the-variants.{Whole}
 use Rattle.reading.specs.declared.step.Step.{Step}
 use Rattle.reading.specs.declared.step.Step.the-variants.{Took, Open, Refused, Complete}
-use Rattle.reading.specs.Step.{takeRadial, takeMoment, takeData, blockAt, stepOf}
+use Rattle.reading.specs.Step.{takeRadial, takeMoment, blockAt, stepOf}
 use Rattle.reading.specs.Reading.{stretch, advanceIf, advanceOf}
 use Rattle.reading.proofs.step.Step.{the-type}
 use Rattle.reading.proofs.Loops.{advance-step}
-use Rattle.reading.proofs.Run.{is-here, is-short, settle-took, took-inj, taken, stays}
+use Rattle.reading.proofs.Run.{is-here, is-short, settle-took, took-more, taken, stays}
 
 -- a step that took no block, as the code tells it from the others
 pub not-took : (s : Step) → OneOf (1 ∷ 2 ∷ 3 ∷ []) (tagOf the-type s) → stays s
@@ -71,11 +69,8 @@ module _ (f : List ℕ) (w n : Walk) (e : stepOf f w ≡ Took n) where
 
   -- behind data a moment header, while moments are to come
   pub data-then : w .due ≡ due.Data → (w .rest .todo ≡ 0 → ⊥) → n .due ≡ due.Moment
-  unfolding blockAt takeData afterData dueIf
-  data-then is t =
-      let m : ltb 0 (w .rest .todo) ≡ true = lt-ltb 0 (w .rest .todo) (omega arith) in
-      let a = ap (λ (x : Bool). afterDataIf x (closesCut w) (ltb (w .count .cut) (w .plan .cuts)) w (w .at + w .rest .length)) m in
-      sym (ap (λ (x : Walk). x .due) (sym a ∙ took-inj _ n (known-block f w due.Data is n e)))
+  unfolding blockAt dueIf
+  data-then is t = sym (ap (λ (x : Walk). x .due) (took-more w n (omega arith) (known-block f w due.Data is n e)))
 
   pub data-on : w .due ≡ due.Data → (w .rest .todo ≡ 0 → ⊥) → advanceOf f w ≡ advanceOf f n
   unfolding endsRadial

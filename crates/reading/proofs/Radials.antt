@@ -9,7 +9,7 @@ use lib.Dec.{eqb, leb, ltb, lit<}
 use lib.IntN.{pos}
 use lib.ListN.{length, take}
 use mir.Syntax.{w32}
-use borrow.Author.Tests.{eqb-true, eqb-false, lt-ltb, le-ltb, leb-true, leb-false}
+use borrow.Author.Tests.{eqb-true, eqb-false, leb-true, leb-false}
 use Rattle.le.specs.Le.{int}
 use Rattle.le.proofs.Laws.{part-take}
 use Rattle.le.proofs.Tests.{both}
@@ -32,13 +32,13 @@ use Rattle.reading.specs.declared.Onward.{Onward}
 use Rattle.reading.specs.declared.Onward.the-variants.{Whole, Stopped}
 use Rattle.reading.specs.declared.step.Step.the-variants.{Took}
 use Rattle.walk.specs.Due.{sizeAt, dueIf, endsRadial, radialDue, atStart}
-use Rattle.walk.specs.After.{afterData, afterDataIf, closesCut, afterRadial, afterMoment}
+use Rattle.walk.specs.After.{closesCut, afterRadial, afterMoment}
 use Rattle.reading.specs.Step.{takeGeneric, takeSite, takeTask, takeCut, takeRadial, takeMoment, takeData, cutIn, blockAt, stepOf}
 use Rattle.reading.specs.Reading.{fuel, stretch, trace, stretches, advanceIf, onTo, advanceOf}
 use Rattle.reading.specs.Tiling.{dueWith, Tiled, none, more, WholeRadial, AllWhole}
 use Rattle.reading.proofs.Counts.{settle-fine}
 use Rattle.reading.proofs.Loops.{further, no-more}
-use Rattle.reading.proofs.Run.{settle-took, took-inj, due-either, ends-data, left, taken, run-holds, enough}
+use Rattle.reading.proofs.Run.{settle-took, dataThen, took-more, took-last, due-either, ends-data, left, taken, run-holds, enough}
 
 -- ---- a block is the same in the file and in the part of it that ends with the block
 
@@ -147,10 +147,9 @@ module _ (f : List ℕ) (w m : Walk) (s : Stretch) (later : Before (m .due) f m 
       }
 
   back-data : takeData w ≡ Took m → 0 < w .rest .todo → Inside f w s (w .rest .todo) (w .at + w .rest .length)
-  unfolding takeData afterData Before dueIf
+  unfolding Before dueIf
   back-data e t =
-      let a = ap (λ (b : Bool). afterDataIf b (closesCut w) (ltb (w .count .cut) (w .plan .cuts)) w (w .at + w .rest .length)) (lt-ltb 0 (w .rest .todo) t) in
-      let i = moved (afterDataIf true (closesCut w) (ltb (w .count .cut) (w .plan .cuts)) w (w .at + w .rest .length)) (sym a ∙ took-inj _ m e) (omega arith) in
+      let i = moved (dataThen true w) (took-more w m t e) (omega arith) in
       record { start = i .start; cut = i .cut; end = i .end; rest = i .rest }
 
   back : (d : Due) → blockAt d (take (w .at + sizeAt d (w .rest .length)) f) w ≡ Took m → m .at ≡ w .at + sizeAt d (w .rest .length)
@@ -198,12 +197,11 @@ before-out due.Data f w s b o = absurd b
 before-out due.Nothing f w s b o = o
 
 between-data : (d : Due) (p : List ℕ) (w m : Walk) → blockAt d p w ≡ Took m → endsRadial d (w .rest .todo) ≡ true → Between (m .due)
-unfolding blockAt endsRadial takeData afterData Between dueIf
+unfolding blockAt endsRadial Between dueIf
 between-data d p w m e t =
     let is-data = ends-data d (w .rest .todo) t in
     let none-left : w .rest .todo ≡ 0 = eqb-true (w .rest .todo) 0 (rw is-data at t) in
-    let a = ap (λ (b : Bool). afterDataIf b (closesCut w) (ltb (w .count .cut) (w .plan .cuts)) w (w .at + w .rest .length)) (le-ltb 0 (w .rest .todo) (omega arith)) in
-    subst (λ (x : Walk). Between (x .due)) (sym a ∙ took-inj _ m (rw is-data at e)) (due-either (λ d x. Between d) (closesCut w && not (ltb (w .count .cut) (w .plan .cuts))) due.Nothing due.Radial w tt tt)
+    subst (λ (x : Walk). Between (x .due)) (took-last w m none-left (rw is-data at e)) (due-either (λ d x. Between d) (closesCut w && not (ltb (w .count .cut) (w .plan .cuts))) due.Nothing due.Radial w tt tt)
 
 -- ---- along a run: what lies before a walk whose advance comes to a whole radial, and where that leaves the next walk
 

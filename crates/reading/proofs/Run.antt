@@ -17,7 +17,7 @@ use Rattle.walk.specs.declared.due.Walk.{Walk}
 use Rattle.reading.specs.declared.step.Step.{Step}
 use Rattle.reading.specs.declared.step.Step.the-variants.{Took, Open, Refused, Complete}
 use Rattle.walk.specs.Due.{sizeAt, sizeOf, isEnd, endsRadial, dueIf}
-use Rattle.walk.specs.After.{afterData, closesCut}
+use Rattle.walk.specs.After.{afterData, afterDataIf, closesCut}
 use Rattle.reading.specs.Step.{settle, takeGeneric, takeSite, takeTask, takeCut, takeRadial, takeMoment, takeData, blockAt, pick, stepOf}
 use Rattle.reading.specs.Reading.{along, walkOn, last, fuel}
 
@@ -103,6 +103,18 @@ settle-took (Broken a b) at n m e = cc
 
 pub took-inj : (x y : Walk) → Took x ≡ Took y → x ≡ y
 took-inj x y e = cc
+
+-- the walk after data, by whether moments are still to come
+abbrev pub dataThen : Bool → Walk → Walk
+dataThen more w = afterDataIf more (closesCut w) (ltb (w .count .cut) (w .plan .cuts)) w (w .at + w .rest .length)
+
+pub took-more : (w m : Walk) → 0 < w .rest .todo → takeData w ≡ Took m → dataThen true w ≡ m
+unfolding takeData afterData
+took-more w m h e = ap (λ (b : Bool). dataThen b w) (sym (lt-ltb 0 (w .rest .todo) h)) ∙ took-inj _ m e
+
+pub took-last : (w m : Walk) → w .rest .todo ≡ 0 → takeData w ≡ Took m → dataThen false w ≡ m
+unfolding takeData afterData
+took-last w m h e = ap (λ (b : Bool). dataThen b w) (sym (le-ltb 0 (w .rest .todo) (omega arith))) ∙ took-inj _ m e
 
 -- where the next block is due, after one that was taken
 pub took-at : (d : Due) (p : List ℕ) (w m : Walk) → blockAt d p w ≡ Took m → m .at ≡ w .at + sizeAt d (w .rest .length)
