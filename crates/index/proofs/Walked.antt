@@ -25,6 +25,7 @@ use Rattle.reading.specs.Step.{takeGeneric, takeSite, takeTask, takeCut, takeRa
 use Rattle.reading.proofs.Grown.{step-done}
 use Rattle.reading.proofs.Run.{ended, settle-took, took-inj, due-either, ends-data, taken, run-holds, last-holds}
 use Rattle.index.specs.Index.{radialsIn}
+use Rattle.index.specs.Making.{cutsIn}
 
 -- ---- whole radials come cut by cut
 
@@ -98,11 +99,11 @@ unfoldable Planned : List ℕ → Due → Walk → Type 0
 Planned f due.Generic w = w .at ≡ 0
 Planned f due.Site w = w .at ≡ 32
 Planned f due.Task w = w .at ≡ 160
-Planned f due.Cut w = w .plan .cuts ≡ le 4 f 336
-Planned f due.Radial w = w .plan .cuts ≡ le 4 f 336
-Planned f due.Moment w = w .plan .cuts ≡ le 4 f 336
-Planned f due.Data w = w .plan .cuts ≡ le 4 f 336
-Planned f due.Nothing w = w .plan .cuts ≡ le 4 f 336
+Planned f due.Cut w = w .plan .cuts ≡ cutsIn f
+Planned f due.Radial w = w .plan .cuts ≡ cutsIn f
+Planned f due.Moment w = w .plan .cuts ≡ cutsIn f
+Planned f due.Data w = w .plan .cuts ≡ cutsIn f
+Planned f due.Nothing w = w .plan .cuts ≡ cutsIn f
 
 -- the task's field, read from the file up to the task's end
 pub cut-number : (f : List ℕ) (at : ℕ) → taskAt (take (at + 256) f) at .«cut_number» ≡ le 4 f (at + 176)
@@ -124,7 +125,7 @@ planned-on f due.Data w m h e =
     (due-either (Planned f) _ due.Moment _ _ h (due-either (Planned f) _ due.Nothing due.Radial _ h h))
 planned-on f due.Nothing w m h e = absurd (let z : _≡_ {A = ℕ} 0 1 = cc in omega arith)
 
-planned-end : (f : List ℕ) (d : Due) (w : Walk) → isEnd d ≡ true → Planned f d w → w .plan .cuts ≡ le 4 f 336
+planned-end : (f : List ℕ) (d : Due) (w : Walk) → isEnd d ≡ true → Planned f d w → w .plan .cuts ≡ cutsIn f
 unfolding isEnd Planned
 planned-end f due.Generic w e h = cc
 planned-end f due.Site w e h = cc
@@ -135,7 +136,7 @@ planned-end f due.Moment w e h = h
 planned-end f due.Data w e h = h
 planned-end f due.Nothing w e h = h
 
-pub cuts-read : (f : List ℕ) → told f ≡ 0 ∷ [] → stop f .plan .cuts ≡ le 4 f 336
+pub cuts-read : (f : List ℕ) → told f ≡ 0 ∷ [] → stop f .plan .cuts ≡ cutsIn f
 unfolding Planned
 cuts-read f e =
     planned-end f (stop f .due) (stop f) (ended f (stop f) (step-done (ending f) e) .0)

@@ -19,7 +19,6 @@ add-radial c =
     omega (arith, start)
 
 returns : tie.Need-returns
-unfolding takeRadial
 returns c =
     let written = c .before .before .before .before in
     let told = written .before .before in
