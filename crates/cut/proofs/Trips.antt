@@ -6,7 +6,8 @@ use Prim.Native.Nat.{ℕ}
 use native.Mathlib.Omega.{arith}
 use lib.ListN.{length, length-append}
 use Rattle.le.specs.Le.{le, bytes, part, run, items, Bytes}
-use Rattle.le.proofs.Laws.{length-bytes, le-bytes, bytes-le, part-all, join, run-numbers}
+use Rattle.le.proofs.Laws.{length-bytes, le-bytes, bytes-le, part-all, join, run-numbers, length-part, le-lt}
+use Rattle.le.proofs.Coded.{Coded}
 use Rattle.cut.specs.Cut.{cutOf, cutBytes, cutSize, CutFits}
 use Rattle.cut.specs.declared.Cut.{Cut}
 
@@ -92,3 +93,12 @@ back-and-there b bs n =
 pub length-is : (r : Cut) → CutFits r → length (cutBytes r) ≡ cutSize
 unfolding cutBytes run
 length-is r h = simp (length-append, length-bytes) (omega arith)
+
+-- what bytes hold fits the record
+pub fits-of : (b : List ℕ) → Bytes b → CutFits (cutOf b)
+unfolding cutOf
+fits-of b bs = search (le-lt, length-part)
+
+abbrev pub coded : Coded Cut
+coded =
+    record { size = cutSize; enc = cutBytes; dec = cutOf; Fits = CutFits; back = there-and-back; there = back-and-there; long = length-is; fits = fits-of }

@@ -6,7 +6,8 @@ use Prim.Native.Nat.{ℕ}
 use native.Mathlib.Omega.{arith}
 use lib.ListN.{length, length-append}
 use Rattle.le.specs.Le.{le, bytes, part, run, items, Bytes}
-use Rattle.le.proofs.Laws.{length-bytes, le-bytes, bytes-le, part-all, join, run-numbers}
+use Rattle.le.proofs.Laws.{length-bytes, le-bytes, bytes-le, part-all, join, run-numbers, length-part, le-lt}
+use Rattle.le.proofs.Coded.{Coded}
 use Rattle.generic.specs.Generic.{genericOf, genericBytes, genericSize, GenericFits}
 use Rattle.generic.specs.declared.Generic.{Generic}
 
@@ -35,3 +36,12 @@ back-and-there b bs n =
 pub length-is : (r : Generic) → GenericFits r → length (genericBytes r) ≡ genericSize
 unfolding genericBytes run
 length-is r h = simp (length-append, length-bytes) (omega arith)
+
+-- what bytes hold fits the record
+pub fits-of : (b : List ℕ) → Bytes b → GenericFits (genericOf b)
+unfolding genericOf
+fits-of b bs = search (le-lt, length-part)
+
+abbrev pub coded : Coded Generic
+coded =
+    record { size = genericSize; enc = genericBytes; dec = genericOf; Fits = GenericFits; back = there-and-back; there = back-and-there; long = length-is; fits = fits-of }

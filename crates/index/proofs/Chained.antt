@@ -8,11 +8,9 @@ use mathlib.Core.Path.{_≡_, refl, sym, ap, subst, _∙_}
 use borrow.Author.Tests.{eqb-true, eqb-false, leb-true, leb-false}
 use lib.Dec.{leb, ltb}
 use lib.ListN.{length, take}
-use mir.Syntax.{w32}
 use Rattle.le.specs.Le.{le}
-use Rattle.rules.specs.States.{mostCuts, cutNumberOk}
 use Rattle.rules.proofs.Judged.{all-hold}
-use Rattle.rules.proofs.Numbers.{least, mostCuts-small}
+use Rattle.rules.proofs.Numbers.{some-cut}
 use Rattle.task.specs.Task.{taskAt, taskCheck, taskRules}
 use Rattle.cut.specs.Cut.{cutAt}
 use Rattle.radial.specs.Radial.{radialAt}
@@ -58,10 +56,6 @@ none-linked f due.Radial w = tt
 none-linked f due.Moment w = tt
 none-linked f due.Data w = tt
 none-linked f due.Nothing w = tt
-
-some-cut : (scan n : ℕ) → cutNumberOk scan n ≡ true → 1 ≤ n
-unfolding cutNumberOk
-some-cut scan n e = least w32 1 (mostCuts scan) n (mostCuts-small scan) e
 
 module _ (f : List ℕ) (w m : Walk) (t : List Stretch) (later : Linked f (m .due) m t) where
   moved : (x : Walk) → x ≡ m → Linked f (x .due) x t

@@ -6,7 +6,8 @@ use Prim.Native.Nat.{ℕ}
 use native.Mathlib.Omega.{arith}
 use lib.ListN.{length, length-append}
 use Rattle.le.specs.Le.{le, bytes, part, run, items, Bytes}
-use Rattle.le.proofs.Laws.{length-bytes, le-bytes, bytes-le, part-all, join, run-numbers}
+use Rattle.le.proofs.Laws.{length-bytes, le-bytes, bytes-le, part-all, join, run-numbers, length-part, le-lt}
+use Rattle.le.proofs.Coded.{Coded}
 use Rattle.moment.specs.Moment.{momentOf, momentBytes, momentSize, MomentFits}
 use Rattle.moment.specs.declared.Moment.{Moment}
 
@@ -36,3 +37,12 @@ back-and-there b bs n =
 pub length-is : (r : Moment) → MomentFits r → length (momentBytes r) ≡ momentSize
 unfolding momentBytes run
 length-is r h = simp (length-append, length-bytes) (omega arith)
+
+-- what bytes hold fits the record
+pub fits-of : (b : List ℕ) → Bytes b → MomentFits (momentOf b)
+unfolding momentOf
+fits-of b bs = search (le-lt, length-part)
+
+abbrev pub coded : Coded Moment
+coded =
+    record { size = momentSize; enc = momentBytes; dec = momentOf; Fits = MomentFits; back = there-and-back; there = back-and-there; long = length-is; fits = fits-of }

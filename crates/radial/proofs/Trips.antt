@@ -6,7 +6,8 @@ use Prim.Native.Nat.{ℕ}
 use native.Mathlib.Omega.{arith}
 use lib.ListN.{length, length-append}
 use Rattle.le.specs.Le.{le, bytes, part, run, items, Bytes}
-use Rattle.le.proofs.Laws.{length-bytes, le-bytes, part-all, join, run-numbers}
+use Rattle.le.proofs.Laws.{length-bytes, le-bytes, part-all, join, run-numbers, length-part, le-lt}
+use Rattle.le.proofs.Coded.{Coded}
 use Rattle.radial.specs.Radial.{radialOf, radialBytes, radialSize, RadialFits}
 use Rattle.radial.specs.declared.Radial.{Radial}
 
@@ -39,3 +40,12 @@ back-and-there b bs n =
 pub length-is : (r : Radial) → RadialFits r → length (radialBytes r) ≡ radialSize
 unfolding radialBytes run
 length-is r h = simp (length-append, length-bytes) (omega arith)
+
+-- what bytes hold fits the record
+pub fits-of : (b : List ℕ) → Bytes b → RadialFits (radialOf b)
+unfolding radialOf
+fits-of b bs = search (le-lt, length-part)
+
+abbrev pub coded : Coded Radial
+coded =
+    record { size = radialSize; enc = radialBytes; dec = radialOf; Fits = RadialFits; back = there-and-back; there = back-and-there; long = length-is; fits = fits-of }

@@ -7,10 +7,10 @@ use mathlib.Core.List.{List, []}
 use borrow.Author.Tests.{lt-ltb, ne-eqb}
 use lib.Dec.{eqb, ltb}
 use lib.ListN.{length}
-use Rattle.rules.proofs.Numbers.{counts-is}
 use Rattle.rules.specs.declared.check.Check.{Check}
 use Rattle.rules.specs.declared.check.Check.the-variants.{Fine, Broken}
 use Rattle.radial.specs.Radial.{radialCheck, radialRules, radialAt}
+use Rattle.radial.proofs.Header.{header}
 use Rattle.rules.proofs.Judged.{all-hold}
 use Rattle.walk.specs.declared.due.Due.{Due}
 use Rattle.walk.specs.declared.due.Due.the-variants as due
@@ -52,7 +52,7 @@ unfolding takeRadial radialCheck Steady
 steady-radial p w m e =
     let r = radialAt p (w .at) in
     let f = all-hold (radialRules r (radialDue w)) (settle-fine _ _ _ m e) in
-    let s = counts-is (w .count .whole) (r .sequence) (f .1 .1 .0) in
+    let s = header r (radialDue w) f .sequence in
     subst (λ (x : Walk). Steady (x .due) x) (settle-took _ _ _ m e) (omega arith)
 
 pub steady-on : (d : Due) (p : List ℕ) (w m : Walk) → Steady d w → blockAt d p w ≡ Took m → Steady (m .due) m

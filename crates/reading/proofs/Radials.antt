@@ -5,24 +5,23 @@ use native.Mathlib.Omega.{arith}
 use mathlib.Core.Path.{_≡_, refl, sym, ap, subst, _∙_}
 use mathlib.Core.Bool.{Bool, true, false, not, _&&_}
 use mathlib.Core.List.{List, [], _∷_}
-use lib.Dec.{eqb, leb, ltb, lit<}
+use lib.Dec.{eqb, leb, ltb}
 use lib.IntN.{pos}
 use lib.ListN.{length, take}
-use mir.Syntax.{w32}
 use borrow.Author.Tests.{eqb-true, eqb-false, leb-true, leb-false}
 use Rattle.le.specs.Le.{int}
 use Rattle.le.proofs.Laws.{part-take}
 use Rattle.le.proofs.Tests.{both}
 use Rattle.rules.specs.Masks.{withBit}
-use Rattle.rules.specs.Tiling.{momentNumberOk, tiles, lengthOk}
+use Rattle.rules.specs.Tiling.{tiles, lengthOk}
 use Rattle.rules.specs.Ranges.{among}
-use Rattle.rules.proofs.Numbers.{least, exact}
 use Rattle.rules.specs.declared.check.Check.the-variants.{Fine}
 use Rattle.moment.specs.declared.Moment.{Moment}
 use Rattle.moment.specs.declared.MomentDue.{MomentDue}
 use Rattle.radial.specs.declared.Radial.{Radial}
 use Rattle.moment.specs.Moment.{momentOf, momentAt, momentCheck, momentRules}
 use Rattle.radial.specs.Radial.{radialOf, radialAt, radialCheck, radialRules}
+use Rattle.radial.proofs.Header.{header}
 use Rattle.rules.proofs.Judged.{all-hold}
 use Rattle.walk.specs.declared.due.Due.{Due}
 use Rattle.walk.specs.declared.due.Due.the-variants as due
@@ -49,12 +48,6 @@ radial-same f at = ap radialOf (part-take 64 f at (at + 64) (omega arith))
 moment-same : (f : List ℕ) (at : ℕ) → momentAt (take (at + 32) f) at ≡ momentAt f at
 unfolding momentAt
 moment-same f at = ap momentOf (part-take 32 f at (at + 32) (omega arith))
-
--- ---- an accepted radial header announces a moment at least
-
-some-moment : (r k : ℕ) → momentNumberOk r k ≡ true → 1 ≤ k
-unfolding momentNumberOk
-some-moment r k e = least w32 1 64 k (lit< tt) (both _ _ e .0)
 
 -- ---- what a walk still has before it, up to the end of the radial that becomes whole next
 
@@ -110,7 +103,7 @@ module _ (f : List ℕ) (w m : Walk) (s : Stretch) (later : Before (m .due) f m 
       let c = cutIn (take (w .at + 64) f) w in
       let g = settle-fine _ _ _ m e in
       let h = all-hold (radialRules r (radialDue w)) g in
-      let k = some-moment (r .«length_of_data») (r .«moment_number») (h .1 .1 .1 .1 .1 .1 .1 .1 .1 .1 .0) in
+      let k = header r (radialDue w) h .some in
       let i = moved (afterRadial r (c .«moments_mask») (c .«size_mask») w (w .at + 64)) (settle-took _ _ _ m e) k in
       let same : r ≡ radialAt f (s .start) = radial-same f (w .at) ∙ ap (radialAt f) (sym (i .start)) in
       let st = i .start in
@@ -283,8 +276,8 @@ pub record Said (f : List ℕ) (s : Stretch) : Type 0 where
 pub said : (f : List ℕ) (s : Stretch) → WholeRadial f s → Said f s
 unfolding radialCheck
 said f s x =
-    let h = all-hold (radialRules (radialAt f (s .start)) (x .against)) (x .header) in
+    let h = header (radialAt f (s .start)) (x .against) (all-hold (radialRules (radialAt f (s .start)) (x .against)) (x .header)) in
     record {
-      cut = x .cut ∙ sym (exact _ _ (h .1 .1 .1 .1 .0));
-      end = tiled-end f _ _ _ _ _ _ _ (x .moments) (some-moment _ _ (h .1 .1 .1 .1 .1 .1 .1 .1 .1 .1 .0));
+      cut = x .cut ∙ sym (h .elevation);
+      end = tiled-end f _ _ _ _ _ _ _ (x .moments) (h .some);
     }

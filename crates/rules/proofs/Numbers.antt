@@ -15,7 +15,8 @@ use mir.ValLaws.{toZ-pos}
 use borrow.Author.Tests.{le-leb, lt-leb, le-ltb, lt-ltb, eq-eqb, ne-eqb, leb-true, eqb-true}
 use Rattle.le.specs.Le.{int}
 use Rattle.le.proofs.Tests.{both, eqb-same}
-use Rattle.rules.specs.States.{rhi, mostCuts, opening, closing}
+use Rattle.rules.specs.States.{rhi, mostCuts, cutNumberOk, opening, closing}
+use Rattle.rules.specs.Tiling.{momentNumberOk}
 use Rattle.rules.specs.Ranges.{among, is, within, notBelowZero, counts, countsInCut}
 
 and-false : (b : Bool) → (b && false) ≡ false
@@ -132,3 +133,12 @@ exact n x e =
 pub counts-is : (before n : ℕ) → counts before n ≡ true → n ≡ before + 1
 unfolding counts
 counts-is before n e = exact (before + 1) n e
+
+-- an accepted task has a cut (number 8), an accepted radial header announces a moment (number 19)
+pub some-cut : (scan n : ℕ) → cutNumberOk scan n ≡ true → 1 ≤ n
+unfolding cutNumberOk
+some-cut scan n e = least w32 1 (mostCuts scan) n (mostCuts-small scan) e
+
+pub some-moment : (left k : ℕ) → momentNumberOk left k ≡ true → 1 ≤ k
+unfolding momentNumberOk
+some-moment left k e = least w32 1 64 k (lit< tt) (both _ _ e .0)

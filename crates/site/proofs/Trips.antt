@@ -6,7 +6,8 @@ use Prim.Native.Nat.{ℕ}
 use native.Mathlib.Omega.{arith}
 use lib.ListN.{length, length-append}
 use Rattle.le.specs.Le.{le, bytes, part, run, items, Bytes}
-use Rattle.le.proofs.Laws.{length-bytes, le-bytes, bytes-le, part-all, join, run-numbers}
+use Rattle.le.proofs.Laws.{length-bytes, le-bytes, bytes-le, part-all, join, run-numbers, length-part, le-lt}
+use Rattle.le.proofs.Coded.{Coded}
 use Rattle.site.specs.Site.{siteOf, siteBytes, siteSize, SiteFits}
 use Rattle.site.specs.declared.Site.{Site}
 
@@ -55,3 +56,12 @@ back-and-there b bs n =
 pub length-is : (r : Site) → SiteFits r → length (siteBytes r) ≡ siteSize
 unfolding siteBytes run
 length-is r h = simp (length-append, length-bytes) (omega arith)
+
+-- what bytes hold fits the record
+pub fits-of : (b : List ℕ) → Bytes b → SiteFits (siteOf b)
+unfolding siteOf
+fits-of b bs = search (le-lt, length-part)
+
+abbrev pub coded : Coded Site
+coded =
+    record { size = siteSize; enc = siteBytes; dec = siteOf; Fits = SiteFits; back = there-and-back; there = back-and-there; long = length-is; fits = fits-of }

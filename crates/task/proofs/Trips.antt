@@ -6,7 +6,8 @@ use Prim.Native.Nat.{ℕ}
 use native.Mathlib.Omega.{arith}
 use lib.ListN.{length, length-append}
 use Rattle.le.specs.Le.{le, bytes, part, run, items, Bytes}
-use Rattle.le.proofs.Laws.{length-bytes, le-bytes, part-all, join, run-numbers}
+use Rattle.le.proofs.Laws.{length-bytes, le-bytes, part-all, join, run-numbers, length-part, le-lt}
+use Rattle.le.proofs.Coded.{Coded}
 use Rattle.task.specs.Task.{taskOf, taskBytes, taskSize, TaskFits}
 use Rattle.task.specs.declared.Task.{Task}
 
@@ -58,3 +59,12 @@ back-and-there b bs n =
 pub length-is : (r : Task) → TaskFits r → length (taskBytes r) ≡ taskSize
 unfolding taskBytes run
 length-is r h = simp (length-append, length-bytes) (omega arith)
+
+-- what bytes hold fits the record
+pub fits-of : (b : List ℕ) → Bytes b → TaskFits (taskOf b)
+unfolding taskOf
+fits-of b bs = search (le-lt, length-part)
+
+abbrev pub coded : Coded Task
+coded =
+    record { size = taskSize; enc = taskBytes; dec = taskOf; Fits = TaskFits; back = there-and-back; there = back-and-there; long = length-is; fits = fits-of }
