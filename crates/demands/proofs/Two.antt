@@ -15,7 +15,10 @@ use Rattle.gates.specs.declared.Told.{Told}
 use Rattle.gates.specs.Gates.{kindOf, gateOf, toldGate}
 use Rattle.gates.proofs.Gates.{gate-value, told-value, told-other}
 use Rattle.gates.proofs.Nearest.{hundredths-near}
-use Rattle.reading.proofs.Radials.{all-whole}
+use Rattle.reading.proofs.Exactly.{told-exactly}
+use Rattle.volume.proofs.Meaning.{means}
+use Rattle.volume.proofs.Placed.{in-place}
+use Rattle.volume.proofs.Sense.{sense}
 use Rattle.ask.proofs.Sounding.{sound}
 use Rattle.index.proofs.Same.{right-only, right-when}
 use Rattle.writer.proofs.Again.{same-block}
@@ -25,10 +28,10 @@ use Rattle.writer.proofs.Runs.{run-back}
 use Rattle.demands.specs.Two.{RefusedExactly, WholeRadials, Codes, Trips, Writing, IndexRight, DemandTwo}
 
 refused-exactly : RefusedExactly
-refused-exactly = record { fine = all-hold; holds = fine-if; refused = decided-first; first = λ rules n p f. first-decides f }
+refused-exactly = record { fine = all-hold; holds = fine-if; refused = decided-first; first = λ rules n p f. first-decides f; files = told-exactly }
 
 whole-radials : WholeRadials
-whole-radials = record { radials = all-whole; moments = sound }
+whole-radials = record { radials = in-place; moments = sound }
 
 special : (c : Coding) (code : ℕ) → code < 5 → kindOf c code ≡ code
 unfolding gateOf
@@ -88,6 +91,7 @@ index-right = record { only = right-only; when = right-when }
 pub demand-two : DemandTwo
 demand-two =
     record {
+      volumes = record { means = means; sense = sense };
       exactly = refused-exactly;
       radials = whole-radials;
       codes = codes;

@@ -27,7 +27,10 @@ use Rattle.gates.specs.Nearest.{Nearest}
 use Rattle.reading.specs.declared.Stretch.{Stretch}
 use Rattle.walk.specs.declared.due.Walk.{Walk}
 use Rattle.reading.specs.Reading.{stop, stretches, bytesOf, told}
-use Rattle.reading.specs.Tiling.{AllWhole}
+use Rattle.reading.specs.Exactly.{ToldExactly}
+use Rattle.volume.specs.InPlace.{AllInPlace}
+use Rattle.volume.specs.Meaning.{Means}
+use Rattle.volume.specs.Sense.{Sense}
 use Rattle.ask.specs.declared.places.Where.the-variants.{At}
 use Rattle.ask.specs.Places.{whereIs}
 use Rattle.ask.specs.Sound.{Sound}
@@ -36,17 +39,27 @@ use Rattle.index.specs.Index.{indexOf}
 use Rattle.writer.specs.Block.{Block}
 use Rattle.writer.specs.Trips.{Fits, TakenWhen, Keeps, CopyOf, SameBlock, Run, ReadBack}
 
+-- a file is the bytes of a volume exactly when reading tells that it is complete, and of one volume alone (what a volume is:
+-- `volume/Volume`, by the place of each block in the structure, with no word of how a file is read); of any file, the whole
+-- radials are those of a volume's beginning. And what document 01 says of a volume in other words follows
+pub record Volumes : Type 0 where
+  pub means : Means
+  pub sense : Sense
+
 -- a block is refused exactly when one of its rules does not hold, with the number and place of the first such rule; it is
--- fine exactly when each of them holds
+-- fine exactly when each of them holds. A file is refused exactly when that is so of the block that is due, or bytes follow
+-- a complete volume; open exactly when that block is not all there, by what is missing of it
 pub record RefusedExactly : Type 0 where
   pub fine : (rules : List Rule) → verdict rules ≡ Fine → Hold rules
   pub holds : (rules : List Rule) → Hold rules → verdict rules ≡ Fine
   pub refused : (rules : List Rule) (n p : ℕ) → verdict rules ≡ Broken n p → First rules n p
   pub first : (rules : List Rule) (n p : ℕ) → First rules n p → verdict rules ≡ Broken n p
+  pub files : (f : List ℕ) → ToldExactly f
 
--- what reading accepts as a whole radial is a header that keeps its rules and moments that tile it, each keeping its own
+-- what reading accepts as a whole radial is a header that keeps its rules and moments that tile it, each keeping its own: against
+-- the file's own task, the true counts and the masks of the radial's own cut, up to where its length of data ends
 pub record WholeRadials : Type 0 where
-  pub radials : (f : List ℕ) → AllWhole f (stretches f)
+  pub radials : (f : List ℕ) → Bytes f → AllInPlace f [] (stretches f)
   pub moments : (f : List ℕ) (n t : ℕ) (s : Stretch) (p : ℕ) → whereIs f n t ≡ At s p → Sound (bytesOf f s) p
 
 -- the five special codes stay five, with nothing but their kind; any other code is exactly (code less offset) over scale
@@ -88,6 +101,7 @@ pub record IndexRight : Type 0 where
   pub when : (f x : List ℕ) → told f ≡ 0 ∷ [] → indexOf f ≡ x → rightFor f x ≡ true
 
 pub record DemandTwo : Type 0 where
+  pub volumes : Volumes
   pub exactly : RefusedExactly
   pub radials : WholeRadials
   pub codes : Codes

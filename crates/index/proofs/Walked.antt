@@ -22,7 +22,7 @@ use Rattle.walk.specs.After.{afterData, closesCut}
 use Rattle.walk.specs.Due.{sizeAt, isEnd, endsRadial, atStart}
 use Rattle.reading.specs.Reading.{fuel, stop, ending, stretchIf, stretchOf, stretches, told}
 use Rattle.reading.specs.Step.{takeGeneric, takeSite, takeTask, takeCut, takeRadial, takeMoment, takeData, blockAt}
-use Rattle.reading.proofs.Grown.{step-done}
+use Rattle.reading.proofs.Exactly.{step-done}
 use Rattle.reading.proofs.Run.{ended, settle-took, took-inj, due-either, ends-data, taken, run-holds, last-holds}
 use Rattle.index.specs.Index.{radialsIn}
 use Rattle.index.specs.Making.{cutsIn}

@@ -4,7 +4,7 @@ use native.Mathlib.Omega.{arith}
 use mathlib.Core.Path.{_≡_, refl, sym, ap, ap₂, subst⁻¹, _∙_}
 use mathlib.Core.Bool.{Bool, true, false}
 use mathlib.Core.List.{List, [], _++_, append-nil}
-use lib.ListN.{length, take, length-append}
+use lib.ListN.{length, length-append}
 use lib.Seq.{take-append-le}
 use Rattle.walk.specs.declared.due.Walk.{Walk}
 use Rattle.reading.specs.declared.Stretch.{Stretch}
@@ -13,7 +13,7 @@ use Rattle.reading.specs.declared.step.Step.the-variants.{Took, Open, Re
 use Rattle.walk.specs.Due.{sizeOf, isEnd, endsRadial, atStart}
 use Rattle.reading.specs.Step.{blockAt, stepOf}
 use Rattle.reading.specs.Reading.{walkOn, last, fuel, stop, ending, stretchIf, stretchOf, trace, stretches}
-use Rattle.reading.proofs.Run.{View, here, short, over, done, view, is-here, is-short, is-over, is-done, Plain, took, refused, block-plain, ended, left, taken, stays, run-stays, run-halts, run-took, run-along, run-holds, run-step, enough}
+use Rattle.reading.proofs.Run.{View, here, short, over, done, view, is-here, is-short, is-over, is-done, Plain, took, refused, block-plain, ended, opened, left, taken, stays, run-stays, run-halts, run-took, run-along, run-holds, run-step, enough}
 
 -- a block that is there reads the same
 same-here : (A C : List ℕ) (w : Walk) → isEnd (w .due) ≡ false → w .at + sizeOf w ≤ length A → stepOf (A ++ C) w ≡ stepOf A w
@@ -53,29 +53,19 @@ plain-same : (s t : Step) → s ≡ t → Plain t → Plain s
 plain-same s t e (took m q) = took m (e ∙ q)
 plain-same s t e (refused n p q) = refused n p (e ∙ q)
 
-open-inj : (a b : ℕ) → Open a ≡ Open b → a ≡ b
-open-inj a b e = cc
-
 pub grows-open : (A C : List ℕ) (w : Walk) (n : ℕ) → w .at ≤ length A → stepOf A w ≡ Open n → Opens A C w n
-grows-open A C w n b e = go (view A w)
-  where
-    go : View A w → Opens A C w n
-    go (here i h) = plain (block-plain (w .due) (take (w .at + sizeOf w) A) w i)
-      where
-        plain : Plain (blockAt (w .due) (take (w .at + sizeOf w) A) w) → Opens A C w n
-        plain (took m q) = absurd (let z = is-here A w i h in let y : _≡_ {A = ℕ} 0 1 = cc in omega arith)
-        plain (refused a b q) = absurd (let z = is-here A w i h in let y : _≡_ {A = ℕ} 0 1 = cc in omega arith)
-    go (short i h) =
-        let q : w .at + sizeOf w - length A ≡ n = open-inj _ _ (sym (is-short A w i h) ∙ e) in
-        let l = length-append A C in
-        record {
-          some = omega arith;
-          still = λ c. is-short (A ++ C) w i (omega arith) ∙ ap Open (omega arith);
-          further = λ c. plain-same _ _ (is-here (A ++ C) w i (omega arith)) (block-plain (w .due) _ w i);
-          size = omega arith;
-        }
-    go (over i h) = absurd (let q = is-over A w i h in let y : _≡_ {A = ℕ} 0 1 = cc in omega arith)
-    go (done i h) = absurd (let q = is-done A w i h in let y : _≡_ {A = ℕ} 0 1 = cc in omega arith)
+grows-open A C w n b e =
+    let o = opened A w n e in
+    let i = o .0 in
+    let h = o .1 in
+    let q = o .2 in
+    let l = length-append A C in
+    record {
+      some = omega arith;
+      still = λ c. is-short (A ++ C) w i (omega arith) ∙ ap Open (omega arith);
+      further = λ c. plain-same _ _ (is-here (A ++ C) w i (omega arith)) (block-plain (w .due) _ w i);
+      size = omega arith;
+    }
 
 -- ---- runs: what the longer file's run makes is what the shorter's makes, with the rest put in where that one stops
 

@@ -81,7 +81,7 @@ out-if true f m s o = o
 out-if false f m s o = o
 
 -- one moment more in front of those that tile
-tile-more : (f : List ℕ) (mask sizes seen left todo at end : ℕ) (h : Moment) → h ≡ momentAt f at → 1 ≤ todo
+pub tile-more : (f : List ℕ) (mask sizes seen left todo at end : ℕ) (h : Moment) → h ≡ momentAt f at → 1 ≤ todo
     → momentCheck h (dueWith mask sizes seen left todo) ≡ Fine
     → Tiled f mask sizes (withBit seen (h .«data_type»)) (left - (32 + h .length)) (todo - 1) (at + 32 + h .length) end
     → Tiled f mask sizes seen left todo at end

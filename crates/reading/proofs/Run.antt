@@ -96,6 +96,23 @@ ended f w e = go (view f w)
     go (over i h) = let q = is-over f w i h in absurd (let z : _≡_ {A = ℕ} 0 1 = cc in omega arith)
     go (done i h) = (i, h)
 
+-- and open only where the due block is not all there, by what is missing of it
+open-inj : (a b : ℕ) → Open a ≡ Open b → a ≡ b
+open-inj a b e = cc
+
+pub opened : (f : List ℕ) (w : Walk) (n : ℕ) → stepOf f w ≡ Open n → (isEnd (w .due) ≡ false) × (length f < w .at + sizeOf w) × (w .at + sizeOf w - length f ≡ n)
+opened f w n e = go (view f w)
+  where
+    go : View f w → (isEnd (w .due) ≡ false) × (length f < w .at + sizeOf w) × (w .at + sizeOf w - length f ≡ n)
+    go (here i h) = plain (block-plain (w .due) (take (w .at + sizeOf w) f) w i)
+      where
+        plain : Plain (blockAt (w .due) (take (w .at + sizeOf w) f) w) → (isEnd (w .due) ≡ false) × (length f < w .at + sizeOf w) × (w .at + sizeOf w - length f ≡ n)
+        plain (took m q) = let z = is-here f w i h in absurd (let y : _≡_ {A = ℕ} 0 1 = cc in omega arith)
+        plain (refused a p q) = let z = is-here f w i h in absurd (let y : _≡_ {A = ℕ} 0 1 = cc in omega arith)
+    go (short i h) = (i, h, open-inj _ _ (sym (is-short f w i h) ∙ e))
+    go (over i h) = let q = is-over f w i h in absurd (let z : _≡_ {A = ℕ} 0 1 = cc in omega arith)
+    go (done i h) = let q = is-done f w i h in absurd (let z : _≡_ {A = ℕ} 0 1 = cc in omega arith)
+
 pub settle-took : (v : Check) (at : ℕ) (n m : Walk) → settle v at n ≡ Took m → n ≡ m
 unfolding settle
 settle-took Fine at n m e = cc

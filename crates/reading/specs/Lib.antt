@@ -1,4 +1,5 @@
 pub mod Step
 pub mod Reading
+pub mod Exactly
 pub mod Growth
 pub mod Tiling

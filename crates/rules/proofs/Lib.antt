@@ -2,3 +2,4 @@ pub mod Four
 pub mod Judged
 pub mod Numbers
 pub mod Order
+pub mod Seen

@@ -7,5 +7,6 @@ pub mod Passed
 pub mod Whole
 pub mod Same
 pub mod Meaning
+pub mod Placed
 pub mod Sense
 pub mod Small

@@ -11,7 +11,7 @@ use Rattle.reading.specs.declared.Stretch.{Stretch}
 use Rattle.reading.specs.declared.step.Step.the-variants.{Took, Complete}
 use Rattle.reading.specs.Step.{stepOf, blockAt}
 use Rattle.reading.specs.Reading.{last, fuel, trace, stretch, stretchIf, stretchOf, endingTold}
-use Rattle.reading.proofs.Grown.{step-done}
+use Rattle.reading.proofs.Exactly.{step-done}
 use Rattle.reading.proofs.Run.{is-here, is-done, stays, goes, Goes, on, off, ended, run-step, run-stays, enough, taken}
 
 -- reading on from w ends complete

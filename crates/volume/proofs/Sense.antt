@@ -1,25 +1,28 @@
--- That the definition says what document 01 says in other words: the moments fill the length of data ("Tiling"), and a cut has at
--- least two radials ("States"). Assumes nothing.
-use Prim.Native.Nat.{ℕ, _+_, _-_, _%_}
+-- That the definition says what document 01 says in other words. Assumes nothing.
+use Prim.Native.Nat.{ℕ, _+_, _-_, _%_, _≤_}
 use native.Mathlib.Omega.{arith}
 use mathlib.Core.Path.{_≡_, sym, _∙_}
-use mathlib.Core.Bool.{Bool, true, false, cond, _&&_}
+use mathlib.Core.Bool.{Bool, true, false, cond, not, _&&_}
 use mathlib.Core.List.{List, [], _∷_}
-use lib.Dec.{eqb, leb, ltb}
+use lib.Dec.{eqb, leb, ltb, lit<}
 use lib.IntN.{pos}
 use lib.ListN.{length}
 use mir.Syntax.{w32}
 use mir.Val.{toZ}
 use borrow.Author.Tests.{eqb-true}
 use Rattle.le.proofs.Tests.{both}
-use Rattle.rules.specs.Ranges.{among, is}
+use Rattle.le.specs.Le.{int}
+use Rattle.rules.specs.Masks.{bit, typeOk}
+use Rattle.rules.proofs.Seen.{set-keeps, set-has}
+use Rattle.rules.specs.Ranges.{within, among, is}
 use Rattle.rules.specs.States.{stateOk, opening, closing, rhi}
 use Rattle.rules.specs.Tiling.{lengthOk, tiles}
-use Rattle.rules.proofs.Numbers.{exact}
+use Rattle.rules.proofs.Numbers.{by-bits, exact}
 use Rattle.cut.specs.declared.Cut.{Cut}
 use Rattle.radial.specs.declared.Radial.{Radial}
 use Rattle.task.specs.declared.Task.{Task}
-use Rattle.volume.specs.Volume.{VolumeMoment, VolumeRadial, tiled, MomentsOk, RadialOk, LayerOk}
+use Rattle.volume.specs.Volume.{VolumeMoment, VolumeRadial, tiled, typesOf, MomentsOk, RadialOk, LayerOk}
+use Rattle.volume.specs.Sense.{Unlike, Differ, InMask, Sense}
 use Rattle.radial.proofs.Header.{header}
 
 -- the last moment leaves none
@@ -31,13 +34,40 @@ fills : (c : Cut) (r : Radial) (ps before : List VolumeMoment) (p : VolumeMoment
 fills c r [] before p ok = let e = last-fills _ _ _ (ok .1 .1 .1 .1 .1 .0) in omega arith
 fills c r (q ∷ qs) before p ok = let e = fills c r qs (p ∷ before) q (ok .3) in omega arith
 
--- the length of data is the sum over the moments of 32 plus length
-pub filled : (t : Task) (c : Cut) (k before inCut : ℕ) (b : VolumeRadial) → RadialOk t c k before inCut b → tiled (b .moments) ≡ b .header .«length_of_data»
-filled t c k before inCut b ok = go (b .moments) (ok .count) (ok .moments)
-  where
-    go : (ms : List VolumeMoment) → length ms ≡ b .header .«moment_number» → MomentsOk c (b .header) [] ms → tiled ms ≡ b .header .«length_of_data»
-    go [] n o = let h = header (b .header) _ (ok .rules) .some in absurd (omega arith)
-    go (p ∷ ps) n o = let e = fills c (b .header) ps [] p o in omega arith
+-- what number 20 says of a type
+record Admitted (mask seen t : ℕ) : Type 0 where
+  in-range : within 1 64 t ≡ true
+  fresh : not (bit seen t) ≡ true
+  masked : bit mask t ≡ true
+
+admitted : (mask seen t : ℕ) → typeOk mask seen t ≡ true → Admitted mask seen t
+unfolding typeOk
+admitted mask seen t e =
+    let x = both (among (pos 1) (pos 64) (int t) && not (bit seen t)) (bit mask t) e in
+    let y = both (among (pos 1) (pos 64) (int t)) (not (bit seen t)) (x .0) in
+    record { in-range = sym (by-bits w32 1 64 t (lit< tt)) ∙ y .0; fresh = y .1; masked = x .1 }
+
+-- a type that was seen is not the type of a later moment
+unlike : (c : Cut) (r : Radial) (t : ℕ) (ps before : List VolumeMoment) → bit (typesOf before) t ≡ true → MomentsOk c r before ps → Unlike t ps
+unlike c r t [] before seen ok = tt
+unlike c r t (p ∷ ps) before seen ok = (
+  λ e.
+      let fresh = admitted _ _ _ (ok .1 .0) .fresh in
+      let again : not (bit (typesOf before) t) ≡ true = rw e at fresh in
+      let never : false ≡ true = rw seen at again in
+      let z : _≡_ {A = ℕ} 0 1 = cc in omega arith,
+  unlike c r t ps (p ∷ before) (set-keeps (typesOf before) (p .header .«data_type») t seen) (ok .3),
+)
+
+differ : (c : Cut) (r : Radial) (ps before : List VolumeMoment) → MomentsOk c r before ps → Differ ps
+differ c r [] before ok = tt
+differ c r (p ∷ ps) before ok =
+    let t = p .header .«data_type» in
+    (unlike c r t ps (p ∷ before) (set-has (typesOf before) t (admitted _ _ _ (ok .1 .0) .in-range)) (ok .3), differ c r ps (p ∷ before) (ok .3))
+
+masked : (c : Cut) (r : Radial) (ps before : List VolumeMoment) → MomentsOk c r before ps → InMask c ps
+masked c r [] before ok = tt
+masked c r (p ∷ ps) before ok = (admitted _ _ _ (ok .1 .0) .masked, masked c r ps (p ∷ before) (ok .3))
 
 -- a first radial does not close its cut
 apart : (a r d : Bool) → _≡_ {A = ℕ} (cond a (cond r 5 3) 0) (cond d 2 (cond r 6 4)) → ⊥
@@ -50,8 +80,31 @@ apart false true false e = omega arith
 apart false false true e = omega arith
 apart false false false e = omega arith
 
-pub two-radials : (t : Task) (c : Cut) (k before : ℕ) (b : VolumeRadial) → LayerOk t c k before 0 (b ∷ []) → ⊥
+two-radials : (t : Task) (c : Cut) (k before : ℕ) (l : List VolumeRadial) → LayerOk t c k before 0 l → 2 ≤ length l
 unfolding stateOk opening closing
-two-radials t c k before b ok =
+two-radials t c k before [] ok = absurd ok
+two-radials t c k before (b ∷ []) ok =
     let e = exact (opening (t .«scan_type») k) (b .header .state) (ok .0 .rules .0) in
-    apart (leb k 1) (rhi (t .«scan_type»)) (ltb k (t .«cut_number»)) (sym e ∙ ok .1)
+    absurd (apart (leb k 1) (rhi (t .«scan_type»)) (ltb k (t .«cut_number»)) (sym e ∙ ok .1))
+two-radials t c k before (b ∷ (n ∷ ns)) ok = omega arith
+
+module _ (t : Task) (c : Cut) (k before inCut : ℕ) (b : VolumeRadial) (ok : RadialOk t c k before inCut b) where
+  some : 1 ≤ length (b .moments)
+  some = let h = header (b .header) _ (ok .rules) .some in let n = ok .count in omega arith
+
+  filled : tiled (b .moments) ≡ b .header .«length_of_data»
+  filled = go (b .moments) some (ok .moments)
+    where
+      go : (ms : List VolumeMoment) → 1 ≤ length ms → MomentsOk c (b .header) [] ms → tiled ms ≡ b .header .«length_of_data»
+      go [] n o = absurd (omega arith)
+      go (p ∷ ps) n o = let e = fills c (b .header) ps [] p o in omega arith
+
+pub sense : Sense
+sense =
+    record {
+      filled = filled;
+      some = some;
+      differ = λ t c k before inCut b ok. differ c (b .header) (b .moments) [] (ok .moments);
+      masked = λ t c k before inCut b ok. masked c (b .header) (b .moments) [] (ok .moments);
+      two = two-radials;
+    }

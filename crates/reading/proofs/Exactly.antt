@@ -1,0 +1,185 @@
+-- When a file is refused, open or complete: a step is settled by the rules of the block that is due, and reading stops at a
+-- step that takes no block. Assumes nothing.
+use Prim.Native.Nat.{ℕ, _+_, _-_, _<_, _≤_}
+use native.Mathlib.Omega.{arith}
+use mathlib.Core.Path.{_≡_, refl, sym, ap, subst, _∙_}
+use mathlib.Core.Bool.{true, false}
+use mathlib.Core.List.{List, [], _∷_}
+use lib.Dec.{lit<}
+use lib.ListN.{length, take}
+use Rattle.le.specs.Le.{part}
+use Rattle.le.proofs.Laws.{part-take}
+use Rattle.rules.specs.Check.{Rule, verdict, First, here, behind}
+use Rattle.rules.specs.declared.check.Check.{Check}
+use Rattle.rules.specs.declared.check.Check.the-variants.{Fine, Broken}
+use Rattle.rules.proofs.Judged.{first-decides, decided-first}
+use Rattle.cut.specs.declared.Cut.{Cut}
+use Rattle.generic.specs.declared.Generic.{Generic}
+use Rattle.moment.specs.declared.Moment.{Moment}
+use Rattle.radial.specs.declared.Radial.{Radial}
+use Rattle.site.specs.declared.Site.{Site}
+use Rattle.task.specs.declared.Task.{Task}
+use Rattle.cut.specs.Cut.{cutOf, cutAt, cutCheck, cutRules}
+use Rattle.generic.specs.Generic.{genericOf, genericAt, genericCheck, genericRules}
+use Rattle.moment.specs.Moment.{momentOf, momentAt, momentCheck, momentRules}
+use Rattle.radial.specs.Radial.{radialOf, radialAt, radialCheck, radialRules}
+use Rattle.site.specs.Site.{siteOf, siteAt, siteCheck, siteRules}
+use Rattle.task.specs.Task.{taskOf, taskAt, taskCheck, taskRules}
+use Rattle.walk.specs.declared.due.Due.{Due}
+use Rattle.walk.specs.declared.due.Due.the-variants as due
+use Rattle.walk.specs.declared.due.Walk.{Walk}
+use Rattle.walk.specs.After.{afterData}
+use Rattle.walk.specs.Due.{sizeAt, sizeOf, isEnd, radialDue, momentDue, atStart}
+use Rattle.reading.specs.declared.step.Step.{Step}
+use Rattle.reading.specs.declared.step.Step.the-variants.{Took, Open, Refused, Complete}
+use Rattle.reading.specs.Step.{settle, takeGeneric, takeSite, takeTask, takeCut, takeRadial, takeMoment, takeData, blockAt, stepOf}
+use Rattle.reading.specs.Reading.{fuel, stop, ending, endingTold, told}
+use Rattle.reading.specs.Exactly.{rulesOf, IsRefused, rule, trailing, IsOpen, IsComplete, ToldExactly}
+use Rattle.reading.proofs.Run.{View, short, over, done, view, is-here, is-short, is-over, is-done, ended, opened, last-within}
+use Rattle.reading.proofs.Run as run
+
+-- ---- what is told, and the step that tells it
+
+pub step-of : (s : Step) (n p : ℕ) → endingTold s ≡ 2 ∷ n ∷ p ∷ [] → s ≡ Refused n p
+unfolding endingTold
+step-of (Took m) n p e = cc
+step-of Complete n p e = cc
+step-of (Open m) n p e = cc
+step-of (Refused m q) n p e = cc
+
+pub step-done : (s : Step) → endingTold s ≡ 0 ∷ [] → s ≡ Complete
+unfolding endingTold
+step-done (Took m) e = cc
+step-done Complete e = refl
+step-done (Open m) e = cc
+step-done (Refused m q) e = cc
+
+pub step-open : (s : Step) (n : ℕ) → endingTold s ≡ 1 ∷ n ∷ [] → s ≡ Open n
+unfolding endingTold
+step-open (Took m) n e = cc
+step-open Complete n e = cc
+step-open (Open m) n e = cc
+step-open (Refused m q) n e = cc
+
+-- ---- a block that is there is settled by the rules of its list
+
+pub record Settled (d : Due) (f : List ℕ) (w : Walk) : Type 0 where
+  pub next : Walk
+  pub is : blockAt d (take (w .at + sizeAt d (w .rest .length)) f) w ≡ settle (verdict (rulesOf d f w)) (w .at) next
+
+same-verdict : {A : Type 0} (dec : List ℕ → A) (rules : A → List Rule) (size : ℕ) (f : List ℕ) (at : ℕ) (next : Walk)
+    → settle (verdict (rules (dec (part size (take (at + size) f) at)))) at next ≡ settle (verdict (rules (dec (part size f at)))) at next
+same-verdict dec rules size f at next =
+    ap (λ (x : List ℕ). settle (verdict (rules (dec x))) at next) (part-take size f at (at + size) (omega arith))
+
+settled-data : (f : List ℕ) (w : Walk) → Settled due.Data f w
+unfolding blockAt takeData rulesOf settle
+settled-data f w = record { next = afterData w (w .at + w .rest .length); is = refl }
+
+pub settled : (d : Due) (f : List ℕ) (w : Walk) → isEnd d ≡ false → Settled d f w
+unfolding blockAt takeGeneric takeSite takeTask takeCut takeRadial takeMoment genericCheck siteCheck taskCheck cutCheck radialCheck momentCheck genericAt siteAt taskAt cutAt radialAt momentAt rulesOf sizeAt isEnd
+settled due.Generic f w i = record { next = _; is = same-verdict genericOf genericRules 32 f (w .at) _ }
+settled due.Site f w i = record { next = _; is = same-verdict siteOf siteRules 128 f (w .at) _ }
+settled due.Task f w i = record { next = _; is = same-verdict taskOf taskRules 256 f (w .at) _ }
+settled due.Cut f w i = record { next = _; is = same-verdict cutOf cutRules 256 f (w .at) _ }
+settled due.Radial f w i = record { next = _; is = same-verdict radialOf (λ r. radialRules r (radialDue w)) 64 f (w .at) _ }
+settled due.Moment f w i = record { next = _; is = same-verdict momentOf (λ r. momentRules r (momentDue w)) 32 f (w .at) _ }
+settled due.Data f w i = settled-data f w
+settled due.Nothing f w i = absurd (let z : _≡_ {A = ℕ} 0 1 = cc in omega arith)
+
+-- the place of each rule of a list lies within so many bytes
+abbrev Within : ℕ → List Rule → Type 0
+Within size [] = Unit {0}
+Within size (r ∷ rs) = (r .place < size) × Within size rs
+
+first-within : {size : ℕ} {rs : List Rule} {n q : ℕ} → First rs n q → Within size rs → q < size
+first-within (here r rs e) h = h .0
+first-within (behind r rs e f) h = first-within f (h .1)
+
+rules-within : (d : Due) (f : List ℕ) (w : Walk) → Within (sizeAt d (w .rest .length)) (rulesOf d f w)
+unfolding rulesOf sizeAt
+rules-within due.Generic f w = (lit< tt, (lit< tt, tt))
+rules-within due.Site f w = (lit< tt, (lit< tt, tt))
+rules-within due.Task f w = (lit< tt, (lit< tt, (lit< tt, (lit< tt, tt))))
+rules-within due.Cut f w = (lit< tt, (lit< tt, (lit< tt, (lit< tt, (lit< tt, (lit< tt, tt))))))
+rules-within due.Radial f w = (lit< tt, (lit< tt, (lit< tt, (lit< tt, (lit< tt, (lit< tt, (lit< tt, (lit< tt, (lit< tt, (lit< tt, (lit< tt, tt)))))))))))
+rules-within due.Moment f w = (lit< tt, (lit< tt, (lit< tt, (lit< tt, (lit< tt, tt)))))
+rules-within due.Data f w = tt
+rules-within due.Nothing f w = tt
+
+-- ---- a refused step: trailing bytes, or the first broken rule of the due block, which lies in that block
+
+pub data Refuses (f : List ℕ) (w : Walk) : ℕ → ℕ → Type 0 where
+  by-rule : (n q : ℕ) → isEnd (w .due) ≡ false → w .at + sizeOf w ≤ length f → First (rulesOf (w .due) f w) n q → Refuses f w n (w .at + q)
+  by-end : isEnd (w .due) ≡ true → w .at < length f → Refuses f w 25 (w .at)
+
+settle-refused : (v : Check) (at : ℕ) (m : Walk) (n p : ℕ) → settle v at m ≡ Refused n p → (q : ℕ) × (v ≡ Broken n q) × (p ≡ at + q)
+unfolding settle
+settle-refused Fine at m n p e = absurd (let z : _≡_ {A = ℕ} 0 1 = cc in omega arith)
+settle-refused (Broken a b) at m n p e = (b, let k : a ≡ n = cc in rw k, cc)
+
+pub refuses : (f : List ℕ) (w : Walk) (n p : ℕ) → stepOf f w ≡ Refused n p → Refuses f w n p
+refuses f w n p e = go (view f w)
+  where
+    go : View f w → Refuses f w n p
+    go (run.here i h) =
+        let s = settled (w .due) f w i in
+        let x = settle-refused _ _ _ n p (sym (s .is) ∙ sym (is-here f w i h) ∙ e) in
+        subst (Refuses f w n) (sym (x .2)) (by-rule n (x .0) i h (decided-first _ n (x .0) (x .1)))
+    go (short i h) = absurd (let q = is-short f w i h in let z : _≡_ {A = ℕ} 0 1 = cc in omega arith)
+    go (over i h) =
+        let q = is-over f w i h in
+        let a : 25 ≡ n = cc in
+        let b : w .at ≡ p = cc in
+        rw (← a, ← b) (by-end i h)
+    go (done i h) = absurd (let q = is-done f w i h in let z : _≡_ {A = ℕ} 0 1 = cc in omega arith)
+
+pub refused-inside : (f : List ℕ) (w : Walk) (n p : ℕ) → stepOf f w ≡ Refused n p → w .at < w .at + sizeOf w → (w .at ≤ p) × (p < w .at + sizeOf w)
+refused-inside f w n p e s = go (refuses f w n p e)
+  where
+    go : {n p : ℕ} → Refuses f w n p → (w .at ≤ p) × (p < w .at + sizeOf w)
+    go (by-rule n q i h x) = let k = first-within x (rules-within (w .due) f w) in (omega arith, omega arith)
+    go (by-end i h) = (omega arith, s)
+
+-- ---- the theorem
+
+module _ (f : List ℕ) where
+  within : stop f .at ≤ length f
+  within = last-within (fuel f) f atStart (omega arith)
+
+  refused-only : {n p : ℕ} → Refuses f (stop f) n p → IsRefused f n p
+  refused-only (by-rule n q i h x) = rule n q i h x
+  refused-only (by-end i h) = trailing i h
+
+  refused-when : {n p : ℕ} → IsRefused f n p → told f ≡ 2 ∷ n ∷ p ∷ []
+  unfolding endingTold settle
+  refused-when (rule n q i h x) =
+      let s = settled (stop f .due) f (stop f) i in
+      ap endingTold (is-here f (stop f) i h ∙ s .is ∙ ap (λ (v : Check). settle v (stop f .at) (s .next)) (first-decides x))
+  refused-when (trailing i h) = ap endingTold (is-over f (stop f) i h)
+
+  open-only : (n : ℕ) → told f ≡ 1 ∷ n ∷ [] → IsOpen f n
+  open-only n e =
+      let o = opened f (stop f) n (step-open (ending f) n e) in
+      let h = o .1 in
+      let k = o .2 in
+      record { due = o .0; some = omega arith; missing = omega arith }
+
+  complete-only : told f ≡ 0 ∷ [] → IsComplete f
+  complete-only e =
+      let d = ended f (stop f) (step-done (ending f) e) in
+      let h = d .1 in
+      let k = within in
+      record { due = d .0; all = omega arith }
+
+  pub told-exactly : ToldExactly f
+  unfolding endingTold
+  told-exactly =
+      record {
+        refused-only = λ n p e. refused-only (refuses f (stop f) n p (step-of (ending f) n p e));
+        refused-when = λ n p x. refused-when x;
+        open-only = open-only;
+        open-when = λ n x. let m = x .missing in let k = x .some in ap endingTold (is-short f (stop f) (x .due) (omega arith) ∙ ap Open (omega arith));
+        complete-only = complete-only;
+        complete-when = λ x. let a = x .all in ap endingTold (is-done f (stop f) (x .due) (omega arith));
+      }
