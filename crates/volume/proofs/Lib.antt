@@ -1,10 +1,11 @@
 pub mod Runs
 pub mod Takes
 pub mod Forth
-pub mod Found
-pub mod Back
-pub mod Passed
-pub mod Whole
+pub mod Layers
+pub mod Stops
+pub mod Grow
+pub mod Tells
+pub mod Accepts
 pub mod Same
 pub mod Meaning
 pub mod Sense

@@ -23,13 +23,15 @@ use Rattle.volume.specs.Volume.{VolumeMoment, VolumeRadial, tiled, Momen
 use Rattle.radial.proofs.Header.{header}
 
 -- the last moment leaves none
-last-fills : (left bin n : ℕ) → lengthOk 1 left bin n ≡ true → 32 + n ≡ left
+last-fills : (todo left bin n : ℕ) → todo ≡ 1 → lengthOk todo left bin n ≡ true → 32 + n ≡ left
 unfolding lengthOk tiles
-last-fills left bin n e = eqb-true (32 + n) left (both (among (pos 1) (pos 32768) (toZ w32 n) && eqb (n % bin) 0) (eqb (32 + n) left) e .1)
+last-fills todo left bin n one k =
+    let e : lengthOk 1 left bin n ≡ true = rw one at k in
+    eqb-true (32 + n) left (both (among (pos 1) (pos 32768) (toZ w32 n) && eqb (n % bin) 0) (eqb (32 + n) left) e .1)
 
-fills : (c : Cut) (r : Radial) (ps before : List VolumeMoment) (p : VolumeMoment) → MomentsOk c r before (p ∷ ps) → tiled (p ∷ ps) + tiled before ≡ r .«length_of_data»
-fills c r [] before p ok = let e = last-fills _ _ _ (ok .1 .1 .1 .1 .1 .0) in omega arith
-fills c r (q ∷ qs) before p ok = let e = fills c r qs (p ∷ before) q (ok .3) in omega arith
+fills : (c : Cut) (r : Radial) (ps before : List VolumeMoment) (p : VolumeMoment) → length (p ∷ ps) + length before ≡ r .«moment_number» → MomentsOk c r before (p ∷ ps) → tiled (p ∷ ps) + tiled before ≡ r .«length_of_data»
+fills c r [] before p n ok = let e = last-fills _ _ _ _ (omega arith) (ok .1 .1 .1 .1 .1 .0) in omega arith
+fills c r (q ∷ qs) before p n ok = let e = fills c r qs (p ∷ before) q (omega arith) (ok .3) in omega arith
 
 -- the length of data is the sum over the moments of 32 plus length
 pub filled : (t : Task) (c : Cut) (k before inCut : ℕ) (b : VolumeRadial) → RadialOk t c k before inCut b → tiled (b .moments) ≡ b .header .«length_of_data»
@@ -37,7 +39,7 @@ filled t c k before inCut b ok = go (b .moments) (ok .count) (ok .moments)
   where
     go : (ms : List VolumeMoment) → length ms ≡ b .header .«moment_number» → MomentsOk c (b .header) [] ms → tiled ms ≡ b .header .«length_of_data»
     go [] n o = let h = header (b .header) _ (ok .rules) .some in absurd (omega arith)
-    go (p ∷ ps) n o = let e = fills c (b .header) ps [] p o in omega arith
+    go (p ∷ ps) n o = let e = fills c (b .header) ps [] p (omega arith) o in omega arith
 
 -- a first radial does not close its cut
 apart : (a r d : Bool) → _≡_ {A = ℕ} (cond a (cond r 5 3) 0) (cond d 2 (cond r 6 4)) → ⊥
