@@ -88,44 +88,23 @@ tried (volume v) ok (x ∷ xs) bs = stops _ (follow v x xs)
 
 -- ---- block by block
 
-record Parsed (f : List ℕ) : Type 0 where
-  accepted : Accepted
-  is : AcceptedOk accepted
-  rest : List ℕ
-  bytes : bytesOfAccepted accepted ++ rest ≡ f
-  verdict : List ℕ
-  says : Says accepted rest verdict
-
-parsed : (n : ℕ) (f : List ℕ) (a : Accepted) → AcceptedOk a → (rest : List ℕ) → Bytes rest → bytesOfAccepted a ++ rest ≡ f → tag a + (length rest + length rest) < n → Parsed f
+parsed : (n : ℕ) (f : List ℕ) (a : Accepted) → AcceptedOk a → (rest : List ℕ) → Bytes rest → bytesOfAccepted a ++ rest ≡ f → tag a + (length rest + length rest) < n → Accepts f
 parsed zero f a ok rest bs e h = absurd (omega arith)
 parsed (suc n) f a ok rest bs e h = go (tried a ok rest bs) (parsed n f)
   where
-    go : Tried a rest → ((a : Accepted) → AcceptedOk a → (rest : List ℕ) → Bytes rest → bytesOfAccepted a ++ rest ≡ f → tag a + (length rest + length rest) < n → Parsed f) → Parsed f
-    go (stops x says) later = record { accepted = a; is = ok; rest = rest; bytes = e; verdict = x; says = says }
+    go : Tried a rest → ((a : Accepted) → AcceptedOk a → (rest : List ℕ) → Bytes rest → bytesOfAccepted a ++ rest ≡ f → tag a + (length rest + length rest) < n → Accepts f) → Accepts f
+    go (stops x says) later = record { accepted = a; is = ok; rest = rest; bytes = e; verdict = x; says = says; told = subst (λ (l : List ℕ). Told l a x) e (tells a rest x ok says) }
     go (goes x g d gs next less) later =
         later (next .accepted) (next .is) g gs
         (ap (λ (l : List ℕ). l ++ g) (next .bytes) ∙ append-assoc (bytesOfAccepted a) x g ∙ ap (λ (l : List ℕ). bytesOfAccepted a ++ l) (sym d) ∙ e)
         (omega arith)
 
 pub accepts : (f : List ℕ) → Bytes f → Accepts f
-accepts f bs = go (parsed (suc (length f + length f)) f nothing tt f bs refl (omega arith))
-  where
-    go : Parsed f → Accepts f
-    go p =
-        let t : Told f (p .accepted) (p .verdict) = subst (λ (l : List ℕ). Told l (p .accepted) (p .verdict)) (p .bytes) (tells (p .accepted) (p .rest) (p .verdict) (p .is) (p .says)) in
-        let v = sym (t .verdict) in
-        record {
-          accepted = p .accepted;
-          is = p .is;
-          rest = p .rest;
-          bytes = p .bytes;
-          says = subst (Says (p .accepted) (p .rest)) v (p .says);
-          told = subst (Told f (p .accepted)) v t;
-        }
+accepts f bs = parsed (suc (length f + length f)) f nothing tt f bs refl (omega arith)
 
 -- a complete file is a volume's bytes
 pub holds : (f : List ℕ) → Bytes f → told f ≡ 0 ∷ [] → Holds f
-holds f bs c = let a = accepts f bs in go (a .accepted) (a .rest) (told f) (a .is) (a .bytes) (a .says) c
+holds f bs c = let a = accepts f bs in go (a .accepted) (a .rest) (a .verdict) (a .is) (a .bytes) (a .says) (sym (a .told .verdict) ∙ c)
   where
     go : (a : Accepted) (rest x : List ℕ) → AcceptedOk a → bytesOfAccepted a ++ rest ≡ f → Says a rest x → x ≡ 0 ∷ [] → Holds f
     go a rest x ok e (complete v) c = record { volume = v; is = ok; bytes = sym (append-nil (bytesOfVolume v)) ∙ e }

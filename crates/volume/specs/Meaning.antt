@@ -70,8 +70,9 @@ pub record Accepts (f : List ℕ) : Type 0 where
   pub is : AcceptedOk accepted
   pub rest : List ℕ
   pub bytes : bytesOfAccepted accepted ++ rest ≡ f
-  pub says : Says accepted rest (told f)
-  pub told : Told f accepted (told f)
+  pub verdict : List ℕ
+  pub says : Says accepted rest verdict
+  pub told : Told f accepted verdict
 
 -- What reading means: a volume's bytes are read as that volume, a complete file is some volume's bytes, and only one's; and
 -- of any file, complete, open or refused, that is told which the structure says: from the structure, and to it.
