@@ -10,3 +10,4 @@ pub mod Same
 pub mod Meaning
 pub mod Sense
 pub mod Small
+pub mod Tried
