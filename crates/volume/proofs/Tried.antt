@@ -4,16 +4,19 @@ use native.Mathlib.Omega.{arith}
 use mathlib.Core.Path.{_≡_, refl, ap, subst, _∙_}
 use mathlib.Core.List.{List, [], _∷_, _++_}
 use lib.ListN.{length, take}
-use Rattle.le.specs.Le.{bytes, part, run}
+use Rattle.le.specs.Le.{le, bytes, part, run}
+use Rattle.rules.specs.Check.{First, here, behind}
+use Rattle.rules.specs.Ranges.{among, notBelowZero}
+use Rattle.rules.specs.States.{rhi, mostCuts, cutNumberOk}
 use Rattle.cut.specs.Cut.{cutBytes}
 use Rattle.generic.specs.Generic.{genericBytes}
 use Rattle.moment.specs.Moment.{momentBytes}
 use Rattle.radial.specs.Radial.{radialBytes}
 use Rattle.site.specs.Site.{siteBytes}
-use Rattle.task.specs.Task.{taskBytes}
+use Rattle.task.specs.Task.{taskBytes, taskOf, taskAt, taskRules}
 use Rattle.reading.specs.Reading.{told, stop, stretches}
 use Rattle.volume.specs.Volume.{bytesOfVolume}
-use Rattle.volume.specs.Accepted.{Begun, Accepted, nothing, moment, volume, AcceptedOk, bytesOfAccepted, missing, follow}
+use Rattle.volume.specs.Accepted.{Begun, Accepted, nothing, site, moment, volume, AcceptedOk, bytesOfAccepted, missing, follow, broken}
 use Rattle.volume.specs.Meaning.{Told}
 use Rattle.volume.proofs.Tells.{tells}
 use Rattle.volume.proofs.Small.{small-generic, small-site, small-task, small-cut, small-radial, small-moment, small-whole, small, small-is, small-length}
@@ -82,3 +85,15 @@ first-read = first-told .read ∙ last-length
 pub first-radials : stretches (take 871 (bytesOfVolume small)) ≡ record { start = 672; end = 772; cut = 1 } ∷ []
 unfolding last-due small-whole small-radial small-moment radialBytes momentBytes run bytes part
 first-radials = first-told .radials
+
+-- 51 cuts: refused 8 at 336
+first-broken : First (taskRules (taskAt (taskBytes (small-task 51)) 0)) 8 176
+unfolding small-task taskAt taskOf taskBytes run le bytes part among notBelowZero cutNumberOk mostCuts rhi
+first-broken = behind _ _ refl (behind _ _ refl (behind _ _ refl (here _ _ refl)))
+
+pub cuts-refused : told (genericBytes small-generic ++ siteBytes small-site ++ taskBytes (small-task 51)) ≡ 2 ∷ 8 ∷ 336 ∷ []
+unfolding small small-generic small-site small-task genericBytes siteBytes taskBytes run bytes part
+cuts-refused =
+    tells (site small-generic small-site) (taskBytes (small-task 51)) (2 ∷ 8 ∷ 336 ∷ []) (small-is .headed .generic, small-is .headed .site)
+    (broken (site small-generic small-site) (taskBytes (small-task 51)) 8 176 (omega arith) first-broken)
+    .verdict
