@@ -130,7 +130,7 @@ module _ (f : List ℕ) (E : Walk → Type 0) (t : Task) where
   -- ---- the cuts, taken
 
   -- the walk behind a cut, where so many more are to come
-  abbrev pub behindCut : ℕ → ℕ → Walk
+  abbrev behindCut : ℕ → ℕ → Walk
   behindCut at more = afterCut (cutWalk t 1 at (suc more)) at
 
   one-cut : (c : Cut) (j at todo : ℕ) (g : List ℕ) (ss : List Stretch) → CutFits c → Hold (cutRules c) → At f at (cutBytes c ++ g)

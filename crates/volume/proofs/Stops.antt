@@ -21,7 +21,7 @@ use Rattle.volume.specs.Accepted.{Accepted, nothing, generic, site, task
 use Rattle.volume.proofs.Runs.{Finishes, Ends, at-stop}
 
 -- some block is due
-abbrev pub Going : Accepted → Type 0
+abbrev Going : Accepted → Type 0
 Going nothing = Unit {0}
 Going (generic g) = Unit {0}
 Going (site g s) = Unit {0}

@@ -21,8 +21,8 @@ use Rattle.volume.specs.Volume.{VolumeRadial, Volume, IsVolume, Headed, 
 
 -- ---- the structure
 
--- a volume up to a radial's end: the cuts with their closed layers, the next cut and the radials so far of its layer, and the
--- cuts with no layer yet
+-- a volume up to a radial's end ("Blocks", "States"): the cuts with closed layers, those layers, the cut whose radials follow,
+-- its radials so far, and the cuts with none yet
 pub record Begun : Type 0 where
   pub generic : Generic
   pub site : Site
@@ -33,7 +33,7 @@ pub record Begun : Type 0 where
   pub now : List VolumeRadial
   pub later : List Cut
 
--- the accepted blocks, by what is due behind them
+-- the accepted blocks, by the block that is due behind them ("What reading tells")
 pub data Accepted : Type 0 where
   -- none: the generic header
   nothing : Accepted
@@ -52,13 +52,12 @@ pub data Accepted : Type 0 where
   -- all of a volume: nothing
   volume : Volume → Accepted
 
--- a beginning's layers, the last of which is not closed
+-- as a volume whose last layer is not closed, and which may have fewer layers than cuts
 abbrev pub volumeOf : Begun → Volume
 volumeOf b =
     record { generic = b .generic; site = b .site; task = b .task; cuts = b .early ++ (b .cut ∷ b .later); layers = b .closed ++ (b .now ∷ []) }
 
--- ---- its bytes
-
+-- its bytes ("Blocks"): the blocks, one after the other
 abbrev pub bytesOfAccepted : Accepted → List ℕ
 bytesOfAccepted nothing = []
 bytesOfAccepted (generic g) = genericBytes g
@@ -71,37 +70,40 @@ bytesOfAccepted (volume v) = bytesOfVolume v
 
 -- ---- what the due block is judged against, by its place in the structure
 
+-- the radials of some layers (number 12 counts them)
 abbrev pub radialsIn : List (List VolumeRadial) → ℕ
 radialsIn [] = 0
 radialsIn (l ∷ ls) = length l + radialsIn ls
 
--- a radial: its cut is one more than the closed layers
+-- a radial ("States", numbers 10 to 14): its cut's number is one more than the closed layers
 abbrev pub dueRadial : Begun → RadialDue
 dueRadial b = judgedRadial (b .task) (suc (length (b .closed))) (radialsIn (b .closed) + length (b .now)) (length (b .now))
 
--- a moment: the nearest of those before it comes first
+-- a moment ("Masks", "Tiling"), behind its radial's moments so far, the nearest first
 abbrev pub dueMoment : Begun → VolumeRadial → MomentDue
 dueMoment b r = judged (b .cut) (r .header) (reverse (r .moments))
 
 -- ---- its rules
 
--- the first radials of the rest of a layer, none of which closes the cut
+-- the first radials of the rest of a layer, none of which closes the cut ("States")
 abbrev pub UnclosedOk : Task → Cut → ℕ → ℕ → ℕ → List VolumeRadial → Type 0
 UnclosedOk t c k before inCut [] = Unit {0}
 UnclosedOk t c k before inCut (b ∷ bs) = RadialOk t c k before inCut b × (Closes t k b → ⊥) × UnclosedOk t c k (suc before) (suc inCut) bs
 
+-- a volume's beginning, as document 01 has it
 pub record BegunOk (b : Begun) : Type 0 where
   pub headed : Headed (volumeOf b)
   pub closed : LayersOk (b .task) 1 0 (b .early) (b .closed)
   pub now : UnclosedOk (b .task) (b .cut) (suc (length (b .closed))) (radialsIn (b .closed)) 0 (b .now)
 
--- a radial's header and fewer moments than it says
+-- a further radial's header, and fewer moments than it says ("Blocks": K of them)
 pub record RadialBegun (b : Begun) (r : VolumeRadial) : Type 0 where
   pub fits : RadialFits (r .header)
   pub rules : Hold (radialRules (r .header) (dueRadial b))
   pub fewer : length (r .moments) < r .header .«moment_number»
   pub moments : MomentsOk (b .cut) (r .header) [] (r .moments)
 
+-- each block keeps its rules where it stands, and the due one is still to come
 abbrev pub AcceptedOk : Accepted → Type 0
 AcceptedOk nothing = Unit {0}
 AcceptedOk (generic g) = GenericOk g
@@ -114,7 +116,7 @@ AcceptedOk (volume v) = IsVolume v
 
 -- ---- the block that is due
 
--- how many bytes it has ("Blocks")
+-- how many bytes it has ("Blocks"); data has the length that its header said
 abbrev pub dueSize : Accepted → ℕ
 dueSize nothing = genericSize
 dueSize (generic g) = siteSize
@@ -125,7 +127,8 @@ dueSize (radial b r) = momentSize
 dueSize (moment b r m) = m .length
 dueSize (volume v) = 0
 
--- and its rules ("Field rules and refusal numbers"), where the bytes behind the accepted blocks are `rest`
+-- its rules ("Field rules and refusal numbers"), of the record that the bytes `rest` behind the accepted blocks begin with; data
+-- has none
 abbrev pub dueRules : Accepted → List ℕ → List Rule
 dueRules nothing rest = genericRules (genericAt rest 0)
 dueRules (generic g) rest = siteRules (siteAt rest 0)
@@ -136,9 +139,10 @@ dueRules (radial b r) rest = momentRules (momentAt rest 0) (dueMoment b r)
 dueRules (moment b r m) rest = []
 dueRules (volume v) rest = []
 
--- ---- what is to be told where `rest` follows the accepted blocks: 0 is complete, 1 open with the missing bytes, 2 refused
--- with number and place
+-- ---- what is told
 
+-- what the accepted blocks and the bytes `rest` behind them say ("What reading tells"): 0 is complete, 1 open with the missing
+-- bytes, 2 refused with number and place
 pub data Says : Accepted → List ℕ → List ℕ → Type 0 where
   -- a volume, and nothing behind it
   complete : (v : Volume) → Says (volume v) [] (0 ∷ [])
@@ -146,5 +150,5 @@ pub data Says : Accepted → List ℕ → List ℕ → Type 0 where
   follow : (v : Volume) (x : ℕ) (xs : List ℕ) → Says (volume v) (x ∷ xs) (2 ∷ 25 ∷ length (bytesOfVolume v) ∷ [])
   -- the due block is not all there
   missing : (a : Accepted) (rest : List ℕ) → length rest < dueSize a → Says a rest (1 ∷ (dueSize a - length rest) ∷ [])
-  -- it is, and its first broken rule decides
+  -- it is all there, and its first broken rule gives number and place
   broken : (a : Accepted) (rest : List ℕ) (n p : ℕ) → dueSize a ≤ length rest → First (dueRules a rest) n p → Says a rest (2 ∷ n ∷ (length (bytesOfAccepted a) + p) ∷ [])

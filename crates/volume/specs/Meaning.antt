@@ -74,8 +74,8 @@ pub record Accepts (f : List ℕ) : Type 0 where
   pub says : Says accepted rest verdict
   pub told : Told f accepted verdict
 
--- What reading means: a volume's bytes are read as that volume, a complete file is some volume's bytes, and only one's; and
--- of any file, complete, open or refused, that is told which the structure says: from the structure, and to it.
+-- What reading means: a volume's bytes are read as that volume, a complete file is some volume's bytes, and only one's; what
+-- accepted blocks and the bytes behind them say is told of their file; and any file is such blocks and bytes that say it.
 pub record Means : Type 0 where
   pub reads : (v : Volume) → IsVolume v → Reads v
   pub holds : (f : List ℕ) → Bytes f → told f ≡ 0 ∷ [] → Holds f
