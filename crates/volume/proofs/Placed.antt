@@ -3,14 +3,14 @@
 use Prim.Native.Nat.{ℕ, suc, _+_, _-_, _*_, _≤_}
 use native.Mathlib.Omega.{arith}
 use mathlib.Core.Path.{_≡_, refl, sym, ap, subst, _∙_}
-use mathlib.Core.List.{List, [], _∷_, _++_, append-assoc}
-use mathlib.Core.Logic.{_⊎_, inl, inr}
+use mathlib.Core.List.{List, [], _∷_, _++_, append-assoc, append-nil}
 use lib.ListN.{length, length-append}
 use borrow.Author.Tests.{eq-eqb, ne-eqb}
 use Rattle.le.specs.Le.{run, part, Bytes}
 use Rattle.le.proofs.Here.{At, here}
 use Rattle.le.proofs.Coded.{Coded, stands}
 use Rattle.le.proofs.Laws.{part-take}
+use Rattle.rules.specs.Check.{Hold}
 use Rattle.rules.proofs.Judged.{fine-if}
 use Rattle.cut.specs.declared.Cut.{Cut}
 use Rattle.cut.specs.Cut.{cutAt, cutBytes}
@@ -31,15 +31,22 @@ use Rattle.moment.proofs.Trips as moment-trip
 use Rattle.walk.specs.Due.{cutPlace}
 use Rattle.reading.specs.declared.Stretch.{Stretch}
 use Rattle.reading.specs.Reading.{stretches}
-use Rattle.reading.specs.Tiling.{Tiled, none, WholeRadial}
+use Rattle.reading.specs.Tiling.{dueWith, Tiled, none, WholeRadial}
 use Rattle.reading.proofs.Radials.{said, tile-more}
-use Rattle.volume.specs.Volume.{VolumeMoment, VolumeRadial, bytesOfMoment, bytesOfRadial, bytesOfVolume, tiled, typesOf, judged, MomentsOk, RadialOk, LayerOk, LayerBegun, LayersBegun, CutsOk}
-use Rattle.volume.specs.Meaning.{layerStretches, layersStretches, endOf, firstPlace, Begins}
+use Rattle.volume.specs.Volume.{VolumeMoment, VolumeRadial, Volume, IsVolume, Headed, bytesOfMoment, bytesOfRadial, bytesOfVolume, tiled, typesOf, judgedRadial, MomentsOk, RadialOk, LayerOk, LayersOk, CutsOk}
+use Rattle.volume.specs.Accepted.{Begun, BegunOk, Accepted, AcceptedOk, nothing, generic, site, task, radials, radial, moment, volume, volumeOf, bytesOfAccepted, radialsIn, UnclosedOk}
+use Rattle.volume.specs.Meaning.{layerStretches, layersStretches, volumeStretches, acceptedStretches, endOf, firstPlace, Accepts}
 use Rattle.volume.specs.InPlace.{taskIn, cutNumber, ofCut, InPlace, AllInPlace}
-use Rattle.volume.proofs.Whole.{begins}
+use Rattle.volume.proofs.Accepts.{accepts}
+use Rattle.volume.proofs.Grow.{run-end}
+use Rattle.volume.proofs.Layers.{endsAt, stretches-end}
+use Rattle.volume.proofs.Tells.{same-number}
 
 apart : (a b c d : List ℕ) → ((a ++ b) ++ c) ++ d ≡ a ++ (b ++ (c ++ d))
 apart a b c d = simp append-assoc
+
+apart-end : (a b c d : List ℕ) → a ++ ((b ++ c) ++ d) ≡ ((a ++ b) ++ c) ++ d
+apart-end a b c d = simp append-assoc
 
 -- ---- a record that stands in the file is read there
 
@@ -55,11 +62,11 @@ module _ (f : List ℕ) (c : Cut) (r : Radial) where
   abbrev Tiles : List VolumeMoment → ℕ → ℕ → ℕ → Type 0
   Tiles before todo at end = Tiled f (c .«moments_mask») (c .«size_mask») (typesOf before) (r .«length_of_data» - tiled before) todo at end
 
-  tile : (ps before : List VolumeMoment) (at end : ℕ) (g : List ℕ) → MomentsOk c r before ps → At f at (run bytesOfMoment ps ++ g) → end ≡ at + length (run bytesOfMoment ps)
-      → Tiles before (length ps) at end × At f end g
+  tile : (ps before : List VolumeMoment) (at end : ℕ) (g : List ℕ) → length ps + length before ≡ r .«moment_number» → MomentsOk c r before ps → At f at (run bytesOfMoment ps ++ g)
+      → end ≡ at + length (run bytesOfMoment ps) → Tiles before (length ps) at end × At f end g
   unfolding run momentAt momentCheck
-  tile [] before at end g ok a e = let z : at ≡ end = omega arith in (subst (Tiles before 0 at) z none, subst (λ (n : ℕ). At f n g) z a)
-  tile (p ∷ ps) before at end g ok a e =
+  tile [] before at end g n ok a e = let z : at ≡ end = omega arith in (subst (Tiles before 0 at) z none, subst (λ (n : ℕ). At f n g) z a)
+  tile (p ∷ ps) before at end g n ok a e =
       let h = p .header in
       let later = run bytesOfMoment ps ++ g in
       let x = read-there moment-trip.coded f at h (p .bytes ++ later) (ok .0) (subst (At f at) (apart (momentBytes h) (p .bytes) (run bytesOfMoment ps) g) a) in
@@ -69,21 +76,20 @@ module _ (f : List ℕ) (c : Cut) (r : Radial) where
       let l : length ((momentBytes h ++ p .bytes) ++ run bytesOfMoment ps) ≡ 32 + h .length + length (run bytesOfMoment ps) = simp length-append (omega arith) in
       let one : suc (length ps) - 1 ≡ length ps = omega arith in
       let two : (r .«length_of_data» - tiled before) - (32 + h .length) ≡ r .«length_of_data» - (32 + h .length + tiled before) = omega arith in
-      let z = tile ps (p ∷ before) (at + 32 + h .length) end g (ok .3) (y .next) (omega arith) in
-      (tile-more f _ _ _ _ (suc (length ps)) at end h (sym (x .0)) (omega arith) (fine-if (momentRules h (judged c r before (suc (length ps)))) (ok .1)) (rw (one, two) (z .0)), z .1)
+      let todo : r .«moment_number» - length before ≡ suc (length ps) = omega arith in
+      let rules = momentRules h (dueWith (c .«moments_mask») (c .«size_mask») (typesOf before) (r .«length_of_data» - tiled before) (suc (length ps))) in
+      let fine : Hold rules = rw todo at (ok .1) in
+      let z = tile ps (p ∷ before) (at + 32 + h .length) end g (omega arith) (ok .3) (y .next) (omega arith) in
+      (tile-more f _ _ _ _ (suc (length ps)) at end h (sym (x .0)) (omega arith) (fine-if rules fine) (rw (one, two) (z .0)), z .1)
 
 -- ---- a radial, a layer, the layers
 
 module _ (f : List ℕ) where
-  -- what a radial of cut k is judged against, behind the radials `before`
-  abbrev Radials : ℕ → List Stretch → List VolumeRadial → Type 0
-  Radials k before l = LayerBegun (taskIn f) (cutNumber f k) k (length before) (ofCut k before) l
-
   placed : (k at : ℕ) (b : VolumeRadial) (g : List ℕ) (before : List Stretch) → RadialOk (taskIn f) (cutNumber f k) k (length before) (ofCut k before) b → At f at (bytesOfRadial b ++ g)
       → InPlace f before (record { start = at; end = at + length (bytesOfRadial b); cut = k }) × At f (at + length (bytesOfRadial b)) g
   unfolding radialAt radialCheck
   placed k at b g before ok a =
-      let against : RadialDue = record { «scan_type» = taskIn f .«scan_type»; cuts = taskIn f .«cut_number»; cut = k; before = length before; «in_cut» = ofCut k before } in
+      let against : RadialDue = judgedRadial (taskIn f) k (length before) (ofCut k before) in
       let c = cutNumber f k in
       let r = b .header in
       let ms = run bytesOfMoment (b .moments) in
@@ -91,7 +97,7 @@ module _ (f : List ℕ) where
       let x = read-there radial-trip.coded f at r (ms ++ g) (ok .fits) (subst (At f at) (append-assoc (radialBytes r) ms g) a) in
       let lr = radial-trip.length-is r (ok .fits) in
       let la = length-append (radialBytes r) ms in
-      let t = tile f c r (b .moments) [] (at + 64) end g (ok .moments) (x .1) (omega arith) in
+      let t = tile f c r (b .moments) [] (at + 64) end g (let n = ok .count in omega arith) (ok .moments) (x .1) (omega arith) in
       let nothing : r .«length_of_data» - 0 ≡ r .«length_of_data» = omega arith in
       let u : Tiled f (c .«moments_mask») (c .«size_mask») 0 (r .«length_of_data») (r .«moment_number») (at + 64) end =
       subst (λ (n : ℕ). Tiled f (c .«moments_mask») (c .«size_mask») 0 (r .«length_of_data») n (at + 64) end) (ok .count) (rw nothing at (t .0)) in
@@ -110,7 +116,21 @@ module _ (f : List ℕ) where
   abbrev NoneFrom : ℕ → List Stretch → Type 0
   NoneFrom k before = (j : ℕ) → k ≤ j → ofCut j before ≡ 0
 
-  layer : (l : List VolumeRadial) (k at : ℕ) (g : List ℕ) (before ss : List Stretch) → Radials k before l → At f at (run bytesOfRadial l ++ g) → NoneFrom (suc k) before
+  -- each of the rest of a layer of cut k, which stands behind the radials `before`
+  abbrev Each : ℕ → ℕ → ℕ → List VolumeRadial → Type 0
+  Each k before inCut [] = Unit {0}
+  Each k before inCut (b ∷ bs) = RadialOk (taskIn f) (cutNumber f k) k before inCut b × Each k (suc before) (suc inCut) bs
+
+  each-closed : (k before inCut : ℕ) (l : List VolumeRadial) → LayerOk (taskIn f) (cutNumber f k) k before inCut l → Each k before inCut l
+  each-closed k before inCut [] ok = tt
+  each-closed k before inCut (b ∷ []) ok = (ok .0, tt)
+  each-closed k before inCut (b ∷ (n ∷ ns)) ok = (ok .0, each-closed k (suc before) (suc inCut) (n ∷ ns) (ok .2))
+
+  each-unclosed : (k before inCut : ℕ) (l : List VolumeRadial) → UnclosedOk (taskIn f) (cutNumber f k) k before inCut l → Each k before inCut l
+  each-unclosed k before inCut [] ok = tt
+  each-unclosed k before inCut (b ∷ bs) ok = (ok .0, each-unclosed k (suc before) (suc inCut) bs (ok .2))
+
+  layer : (l : List VolumeRadial) (k at : ℕ) (g : List ℕ) (before ss : List Stretch) → Each k (length before) (ofCut k before) l → At f at (run bytesOfRadial l ++ g) → NoneFrom (suc k) before
       → ((more : List Stretch) → length more ≡ length before + length l → NoneFrom (suc k) more → At f (endOf at l) g → AllInPlace f more ss)
       → AllInPlace f before (layerStretches k at l ++ ss)
   unfolding run
@@ -118,51 +138,33 @@ module _ (f : List ℕ) where
   layer (b ∷ bs) k at g before ss ok a later next =
       let e = at + length (bytesOfRadial b) in
       let s : Stretch = record { start = at; end = e; cut = k } in
-      let x = placed k at b (run bytesOfRadial bs ++ g) before (first-ok bs ok) (subst (At f at) (append-assoc (bytesOfRadial b) (run bytesOfRadial bs) g) a) in
-      let own : ofCut k (s ∷ before) ≡ suc (ofCut k before) = rw (eq-eqb k k refl) (omega arith) in (
-        x .0,
-        layer bs k e g (s ∷ before) ss (subst (λ (n : ℕ). LayerBegun (taskIn f) (cutNumber f k) k (suc (length before)) n bs) (sym own) (rest-ok bs ok)) (x .1)
-            (λ j h. let z = later j h in rw (ne-eqb k j (λ q. omega arith)) (omega arith))
-            (λ more n h i. next more (omega arith) h i),
-      )
-    where
-      first-ok : (bs : List VolumeRadial) → Radials k before (b ∷ bs) → RadialOk (taskIn f) (cutNumber f k) k (length before) (ofCut k before) b
-      first-ok [] o = o
-      first-ok (n ∷ ns) o = o .0
+      let x = placed k at b (run bytesOfRadial bs ++ g) before (ok .0) (subst (At f at) (append-assoc (bytesOfRadial b) (run bytesOfRadial bs) g) a) in
+      let own : ofCut k (s ∷ before) ≡ suc (ofCut k before) = rw (eq-eqb k k refl) (omega arith) in
+      (x .0, layer bs k e g (s ∷ before) ss (subst (λ (n : ℕ). Each k (suc (length before)) n bs) (sym own) (ok .1)) (x .1)
+      (λ j h. let z = later j h in rw (ne-eqb k j (λ q. omega arith)) (omega arith))
+      (λ more n h i. next more (omega arith) h i))
 
-      rest-ok : (bs : List VolumeRadial) → Radials k before (b ∷ bs) → LayerBegun (taskIn f) (cutNumber f k) k (suc (length before)) (suc (ofCut k before)) bs
-      rest-ok [] o = tt
-      rest-ok (n ∷ ns) o = o .2
-
--- a whole layer is a begun one
-begun-too : (t : Task) (c : Cut) (k before inCut : ℕ) (l : List VolumeRadial) → LayerOk t c k before inCut l → LayerBegun t c k before inCut l
-begun-too t c k before inCut [] ok = tt
-begun-too t c k before inCut (b ∷ []) ok = ok .0
-begun-too t c k before inCut (b ∷ (n ∷ ns)) ok = (ok .0, ok .1, begun-too t c k (suc before) (suc inCut) (n ∷ ns) (ok .2))
-
-module _ (f : List ℕ) where
   -- the cuts from number k on, as they stand in the file
   abbrev CutsIn : ℕ → List Cut → Type 0
   CutsIn k [] = Unit {0}
   CutsIn k (c ∷ cs) = (cutNumber f k ≡ c) × CutsIn (suc k) cs
 
-  own : (c : Cut) (k : ℕ) (before : List Stretch) (l : List VolumeRadial) → cutNumber f k ≡ c → NoneFrom f k before → LayerBegun (taskIn f) c k (length before) 0 l → Radials f k before l
-  own c k before l e nf ok =
-      subst (λ (x : Cut). LayerBegun (taskIn f) x k (length before) (ofCut k before) l) (sym e)
-      (subst (λ (n : ℕ). LayerBegun (taskIn f) c k (length before) n l) (sym (nf k (omega arith))) ok)
-
-  layers : (ls : List (List VolumeRadial)) (cs : List Cut) (k at : ℕ) (g : List ℕ) (before : List Stretch) → CutsIn k cs → LayersBegun (taskIn f) k (length before) 0 cs ls
-      → At f at (run (run bytesOfRadial) ls ++ g) → NoneFrom f k before → AllInPlace f before (layersStretches k at ls)
+  -- the closed layers, and what stands behind them
+  layers : (ls : List (List VolumeRadial)) (cs : List Cut) (k at : ℕ) (g : List ℕ) (before ss : List Stretch) → CutsIn k cs → LayersOk (taskIn f) k (length before) cs ls
+      → At f at (run (run bytesOfRadial) ls ++ g) → NoneFrom k before
+      → ((more : List Stretch) → length more ≡ length before + radialsIn ls → NoneFrom (k + length ls) more → At f (endsAt at ls) g → AllInPlace f more ss)
+      → AllInPlace f before (layersStretches k at ls ++ ss)
   unfolding run
-  layers [] cs k at g before ci ok a nf = tt
-  layers (l ∷ []) [] k at g before ci ok a nf = absurd ok
-  layers (l ∷ (m ∷ ms)) [] k at g before ci ok a nf = absurd ok
-  layers (l ∷ []) (c ∷ cs) k at g before ci ok a nf =
-      layer f l k at g before [] (own c k before l (ci .0) nf ok) (subst (At f at) (append-assoc (run bytesOfRadial l) [] g) a) (λ j h. nf j (omega arith)) (λ more n h i. tt)
-  layers (l ∷ (m ∷ ms)) (c ∷ cs) k at g before ci ok a nf =
-      layer f l k at (run (run bytesOfRadial) (m ∷ ms) ++ g) before (layersStretches (suc k) (endOf at l) (m ∷ ms)) (own c k before l (ci .0) nf (begun-too (taskIn f) c k (length before) 0 l (ok .0)))
-      (subst (At f at) (append-assoc (run bytesOfRadial l) (run (run bytesOfRadial) (m ∷ ms)) g) a) (λ j h. nf j (omega arith))
-      (λ more n h i. layers (m ∷ ms) cs (suc k) (endOf at l) g more (ci .1) (subst (λ (x : ℕ). LayersBegun (taskIn f) (suc k) x 0 cs (m ∷ ms)) (sym n) (ok .1)) i h)
+  layers [] cs k at g before ss ci ok a nf next = next before (omega arith) (λ j h. nf j (omega arith)) a
+  layers (l ∷ ls) [] k at g before ss ci ok a nf next = absurd ok
+  layers (l ∷ ls) (c ∷ cs) k at g before ss ci ok a nf next =
+      let later = layersStretches (suc k) (endOf at l) ls ++ ss in
+      let own = subst (λ (n : ℕ). LayerOk (taskIn f) (cutNumber f k) k (length before) n l) (sym (nf k (omega arith))) (subst (λ (x : Cut). LayerOk (taskIn f) x k (length before) 0 l) (sym (ci .0)) (ok .0)) in
+      subst (AllInPlace f before) (sym (append-assoc (layerStretches k at l) (layersStretches (suc k) (endOf at l) ls) ss))
+      (layer l k at (run (run bytesOfRadial) ls ++ g) before later (each-closed k (length before) (ofCut k before) l own)
+      (subst (At f at) (append-assoc (run bytesOfRadial l) (run (run bytesOfRadial) ls) g) a) (λ j h. nf j (omega arith))
+      (λ more n h i. layers ls cs (suc k) (endOf at l) g more ss (ci .1) (subst (λ (x : ℕ). LayersOk (taskIn f) (suc k) x cs ls) (sym n) (ok .1)) i h
+      (λ m n′ h′ i′. next m (omega arith) (λ j q. h′ j (omega arith)) i′)))
 
   cuts-in : (cs : List Cut) (k at : ℕ) (g : List ℕ) → 1 ≤ k → at ≡ cutPlace k → CutsOk cs → At f at (run cutBytes cs ++ g) → CutsIn k cs × At f (at + 256 * length cs) g
   unfolding run cutAt
@@ -172,26 +174,70 @@ module _ (f : List ℕ) where
       let y = cuts-in cs (suc k) (at + 256) g (omega arith) (omega arith) (ok .2) (x .1) in
       ((ap (cutAt f) (sym e) ∙ x .0, y .0), subst (λ (n : ℕ). At f n g) (omega arith) (y .1))
 
-  begun : (b : Begins f) → AllInPlace f [] (layersStretches 1 (firstPlace (b .volume)) (b .volume .layers))
+  cuts-split : (cs ds : List Cut) (k : ℕ) → CutsIn k (cs ++ ds) → CutsIn k cs × CutsIn (k + length cs) ds
+  cuts-split [] ds k ci = (tt, subst (λ (n : ℕ). CutsIn n ds) (omega arith) ci)
+  cuts-split (c ∷ cs) ds k ci = let x = cuts-split cs ds (suc k) (ci .1) in ((ci .0, x .0), subst (λ (n : ℕ). CutsIn n ds) (omega arith) (x .1))
+
+  -- the blocks before the radials, as they stand in the file
+  record Front (v : Volume) (rest : List ℕ) : Type 0 where
+    task : taskIn f ≡ v .task
+    cuts : CutsIn 1 (v .cuts)
+    radials : At f (firstPlace v) (run (run bytesOfRadial) (v .layers) ++ rest)
+
+  front : (v : Volume) (rest : List ℕ) → Headed v → bytesOfVolume v ++ rest ≡ f → Front v rest
   unfolding taskAt
-  begun b =
-      let v = b .volume in
-      let h = b .is .headed in
-      let g4 = run (run bytesOfRadial) (v .layers) ++ b .tail in
+  front v rest h e =
+      let g4 = run (run bytesOfRadial) (v .layers) ++ rest in
       let g3 = run cutBytes (v .cuts) ++ g4 in
       let g2 = taskBytes (v .task) ++ g3 in
       let g1 = siteBytes (v .site) ++ g2 in
-      let e : bytesOfVolume v ++ b .tail ≡ genericBytes (v .generic) ++ g1 = simp append-assoc in
-      let x0 = read-there generic-trip.coded f 0 (v .generic) g1 (h .generic .0) (record { within = omega arith; rest = sym (b .bytes) ∙ e }) in
+      let all : bytesOfVolume v ++ rest ≡ genericBytes (v .generic) ++ g1 = simp append-assoc in
+      let x0 = read-there generic-trip.coded f 0 (v .generic) g1 (h .generic .0) (record { within = omega arith; rest = sym e ∙ all }) in
       let x1 = read-there site-trip.coded f 32 (v .site) g2 (h .site .0) (x0 .1) in
       let x2 = read-there task-trip.coded f 160 (v .task) g3 (h .task .0) (x1 .1) in
       let y = cuts-in (v .cuts) 1 416 g4 (omega arith) refl (h .cuts) (x2 .1) in
-      layers (v .layers) (v .cuts) 1 (firstPlace v) (b .tail) [] (y .0) (subst (λ (t : Task). LayersBegun t 1 0 0 (v .cuts) (v .layers)) (sym (x2 .0)) (b .is .layers)) (y .1) (λ j k. refl)
+      record { task = x2 .0; cuts = y .0; radials = y .1 }
+
+  of-volume : (v : Volume) (rest : List ℕ) → IsVolume v → bytesOfVolume v ++ rest ≡ f → AllInPlace f [] (volumeStretches v)
+  of-volume v rest ok e =
+      let x = front v rest (ok .headed) e in
+      subst (AllInPlace f []) (append-nil (volumeStretches v))
+      (layers (v .layers) (v .cuts) 1 (firstPlace v) rest [] [] (x .cuts) (subst (λ (t : Task). LayersOk t 1 0 (v .cuts) (v .layers)) (sym (x .task)) (ok .layers)) (x .radials) (λ j h. refl)
+      (λ more n h i. tt))
+
+  of-begun : (b : Begun) (rest : List ℕ) → BegunOk b → bytesOfVolume (volumeOf b) ++ rest ≡ f → AllInPlace f [] (volumeStretches (volumeOf b))
+  of-begun b rest ok e =
+      let x = front (volumeOf b) rest (ok .headed) e in
+      let at = firstPlace (volumeOf b) in
+      let k = 1 + length (b .closed) in
+      let c = cuts-split (b .early) (b .cut ∷ b .later) 1 (x .cuts) in
+      let n = same-number (b .task) 1 0 (b .early) (b .closed) (ok .closed) in
+      let number : 1 + length (b .early) ≡ k = omega arith in
+      let own : cutNumber f k ≡ b .cut = ap (cutNumber f) (sym number) ∙ c .1 .0 in
+      let a = subst (At f at) (ap (λ (y : List ℕ). y ++ rest) (run-end (run bytesOfRadial) (b .closed) (b .now)) ∙ append-assoc (run (run bytesOfRadial) (b .closed)) (run bytesOfRadial (b .now)) rest) (x .radials) in
+      subst (AllInPlace f []) (sym (stretches-end 1 at (b .closed) (b .now)))
+      (layers (b .closed) (b .early) 1 at (run bytesOfRadial (b .now) ++ rest) [] (layerStretches k (endsAt at (b .closed)) (b .now)) (c .0)
+      (subst (λ (t : Task). LayersOk t 1 0 (b .early) (b .closed)) (sym (x .task)) (ok .closed)) a (λ j h. refl)
+      (λ more m h i. subst (AllInPlace f more) (append-nil (layerStretches k (endsAt at (b .closed)) (b .now)))
+      (layer (b .now) k (endsAt at (b .closed)) rest more [] (each-unclosed k (length more) (ofCut k more) (b .now) (unclosed b ok k more (x .task) own (omega arith) (omega arith) (h k (omega arith)))) i (λ j q. h j (omega arith)) (λ more m h i. tt))))
+    where
+      unclosed : (b : Begun) → BegunOk b → (k : ℕ) (more : List Stretch) → taskIn f ≡ b .task → cutNumber f k ≡ b .cut → suc (length (b .closed)) ≡ k → radialsIn (b .closed) ≡ length more → ofCut k more ≡ 0
+          → UnclosedOk (taskIn f) (cutNumber f k) k (length more) (ofCut k more) (b .now)
+      unclosed b ok k more t c n m z = rw (t, c, z) (subst (λ (i : ℕ). UnclosedOk (b .task) (b .cut) k i 0 (b .now)) m (subst (λ (i : ℕ). UnclosedOk (b .task) (b .cut) i (radialsIn (b .closed)) 0 (b .now)) n (ok .now)))
 
   -- every whole radial of a file is in its own place
   pub in-place : Bytes f → AllInPlace f [] (stretches f)
-  in-place bs = go (begins f bs)
+  in-place bs = go (accepts f bs)
     where
-      go : (stretches f ≡ []) ⊎ Begins f → AllInPlace f [] (stretches f)
-      go (inl e) = subst (AllInPlace f []) (sym e) tt
-      go (inr b) = subst (AllInPlace f []) (sym (b .radials)) (begun b)
+      by : (a : Accepted) (rest : List ℕ) → AcceptedOk a → bytesOfAccepted a ++ rest ≡ f → AllInPlace f [] (acceptedStretches a)
+      by nothing rest ok e = tt
+      by (generic g) rest ok e = tt
+      by (site g s) rest ok e = tt
+      by (task g s t cs) rest ok e = tt
+      by (radials b) rest ok e = of-begun b rest ok e
+      by (radial b r) rest ok e = of-begun b (bytesOfRadial r ++ rest) (ok .0) (sym (append-assoc (bytesOfVolume (volumeOf b)) (bytesOfRadial r) rest) ∙ e)
+      by (moment b r m) rest ok e = of-begun b ((bytesOfRadial r ++ momentBytes m) ++ rest) (ok .0) (apart-end (bytesOfVolume (volumeOf b)) (bytesOfRadial r) (momentBytes m) rest ∙ e)
+      by (volume v) rest ok e = of-volume v rest ok e
+
+      go : Accepts f → AllInPlace f [] (stretches f)
+      go x = subst (AllInPlace f []) (sym (x .told .radials)) (by (x .accepted) (x .rest) (x .is) (x .bytes))

@@ -14,7 +14,7 @@ use Rattle.le.proofs.Tests.{both}
 use Rattle.le.specs.Le.{int}
 use Rattle.rules.specs.Masks.{bit, typeOk}
 use Rattle.rules.proofs.Seen.{set-keeps, set-has}
-use Rattle.rules.specs.Ranges.{within, among, is}
+use Rattle.rules.specs.Ranges.{within, among}
 use Rattle.rules.specs.States.{stateOk, opening, closing, rhi}
 use Rattle.rules.specs.Tiling.{lengthOk, tiles}
 use Rattle.rules.proofs.Numbers.{by-bits, exact}
@@ -26,13 +26,15 @@ use Rattle.volume.specs.Sense.{Unlike, Differ, InMask, Sense}
 use Rattle.radial.proofs.Header.{header}
 
 -- the last moment leaves none
-last-fills : (left bin n : ℕ) → lengthOk 1 left bin n ≡ true → 32 + n ≡ left
+last-fills : (todo left bin n : ℕ) → todo ≡ 1 → lengthOk todo left bin n ≡ true → 32 + n ≡ left
 unfolding lengthOk tiles
-last-fills left bin n e = eqb-true (32 + n) left (both (among (pos 1) (pos 32768) (toZ w32 n) && eqb (n % bin) 0) (eqb (32 + n) left) e .1)
+last-fills todo left bin n one k =
+    let e : lengthOk 1 left bin n ≡ true = rw one at k in
+    eqb-true (32 + n) left (both (among (pos 1) (pos 32768) (toZ w32 n) && eqb (n % bin) 0) (eqb (32 + n) left) e .1)
 
-fills : (c : Cut) (r : Radial) (ps before : List VolumeMoment) (p : VolumeMoment) → MomentsOk c r before (p ∷ ps) → tiled (p ∷ ps) + tiled before ≡ r .«length_of_data»
-fills c r [] before p ok = let e = last-fills _ _ _ (ok .1 .1 .1 .1 .1 .0) in omega arith
-fills c r (q ∷ qs) before p ok = let e = fills c r qs (p ∷ before) q (ok .3) in omega arith
+fills : (c : Cut) (r : Radial) (ps before : List VolumeMoment) (p : VolumeMoment) → length (p ∷ ps) + length before ≡ r .«moment_number» → MomentsOk c r before (p ∷ ps) → tiled (p ∷ ps) + tiled before ≡ r .«length_of_data»
+fills c r [] before p n ok = let e = last-fills _ _ _ _ (omega arith) (ok .1 .1 .1 .1 .1 .0) in omega arith
+fills c r (q ∷ qs) before p n ok = let e = fills c r qs (p ∷ before) q (omega arith) (ok .3) in omega arith
 
 -- what number 20 says of a type
 record Admitted (mask seen t : ℕ) : Type 0 where
@@ -93,11 +95,11 @@ module _ (t : Task) (c : Cut) (k before inCut : ℕ) (b : VolumeRadial) (ok : Ra
   some = let h = header (b .header) _ (ok .rules) .some in let n = ok .count in omega arith
 
   filled : tiled (b .moments) ≡ b .header .«length_of_data»
-  filled = go (b .moments) some (ok .moments)
+  filled = go (b .moments) some (ok .count) (ok .moments)
     where
-      go : (ms : List VolumeMoment) → 1 ≤ length ms → MomentsOk c (b .header) [] ms → tiled ms ≡ b .header .«length_of_data»
-      go [] n o = absurd (omega arith)
-      go (p ∷ ps) n o = let e = fills c (b .header) ps [] p o in omega arith
+      go : (ms : List VolumeMoment) → 1 ≤ length ms → length ms ≡ b .header .«moment_number» → MomentsOk c (b .header) [] ms → tiled ms ≡ b .header .«length_of_data»
+      go [] one n o = absurd (omega arith)
+      go (p ∷ ps) one n o = let e = fills c (b .header) ps [] p (omega arith) o in omega arith
 
 pub sense : Sense
 sense =

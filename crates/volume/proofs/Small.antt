@@ -26,7 +26,7 @@ use Rattle.radial.specs.Radial.{radialBytes, RadialFits}
 use Rattle.moment.specs.declared.Moment.{Moment}
 use Rattle.moment.specs.Moment.{momentBytes, MomentFits}
 use Rattle.volume.specs.Volume.{VolumeRadial, Volume, IsVolume, RadialOk, bytesOfVolume}
-use Rattle.volume.proofs.Forth.{reads}
+use Rattle.volume.proofs.Meaning.{reads}
 use Rattle.reading.specs.Reading.{told, stretches}
 
 unfoldable pub small-generic : Generic

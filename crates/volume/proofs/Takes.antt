@@ -1,13 +1,14 @@
 -- The walks between the blocks of a volume, written out, and each kind of block taken where it stands. Assumes nothing.
 use Prim.Native.Nat.{ℕ, _+_, _-_}
-use mathlib.Core.Path.{_≡_, ap, ap₂, _∙_}
-use mathlib.Core.Bool.{Bool, not, cond}
+use mathlib.Core.Path.{_≡_, ap, ap₂}
+use mathlib.Core.Bool.{Bool, false, not, cond}
 use mathlib.Core.List.{List}
+use lib.Dec.{eqb, ltb}
+use lib.ListN.{length}
 use Rattle.le.specs.Le.{part}
-use Rattle.rules.specs.Check.{Hold}
-use Rattle.rules.specs.declared.check.Check.{Check}
-use Rattle.rules.specs.declared.check.Check.the-variants.{Fine}
-use Rattle.rules.proofs.Judged.{fine-if}
+use Rattle.rules.specs.Check.{Rule, Hold, First, verdict}
+use Rattle.rules.proofs.Judged.{fine-if, first-decides}
+use Rattle.rules.specs.States.{closing}
 use Rattle.cut.specs.declared.Cut.{Cut}
 use Rattle.generic.specs.declared.Generic.{Generic}
 use Rattle.moment.specs.declared.Moment.{Moment}
@@ -28,9 +29,10 @@ use Rattle.walk.specs.declared.due.Present.{Present}
 use Rattle.walk.specs.declared.due.Rest.{Rest}
 use Rattle.walk.specs.declared.due.Walk.{Walk}
 use Rattle.walk.specs.Due.{radialDue, momentDue, dueIf}
-use Rattle.walk.specs.After.{afterGeneric, afterSite, afterTask, afterCut, afterRadial, afterMoment}
-use Rattle.reading.specs.declared.step.Step.the-variants.{Took}
+use Rattle.walk.specs.After.{afterGeneric, afterSite, afterTask, afterCut, afterRadial, afterMoment, afterDataIf}
+use Rattle.reading.specs.declared.step.Step.the-variants.{Took, Refused}
 use Rattle.reading.specs.Step.{settle, takeGeneric, takeSite, takeTask, takeCut, takeRadial, takeMoment, cutIn, blockAt}
+use Rattle.volume.specs.Volume.{VolumeMoment, tiled, typesOf}
 
 -- ---- walks
 
@@ -53,35 +55,66 @@ closedWalk later t k before at pr re =
 abbrev pub presentOf : Cut → Radial → ℕ → Present
 presentOf c r start = record { start = start; state = r .state; sequence = r .sequence; mask = c .«moments_mask»; sizes = c .«size_mask» }
 
--- ---- each kind of block, taken
+-- a radial of cut k is the present one
+abbrev pub countAt : ℕ → Radial → ℕ → Count
+countAt k r before = record { cut = k; whole = before; «in_cut» = r .«radial_number» }
 
-settle-if : (v : Check) (at : ℕ) (n : Walk) → v ≡ Fine → settle v at n ≡ Took n
+-- a moment of it is due, and a moment's data
+abbrev pub momentWalk : Task → Cut → ℕ → Radial → ℕ → ℕ → ℕ → Rest → Walk
+momentWalk t c k r before start at re = walkAt due.Moment (planOf t) (countAt k r before) (presentOf c r start) at re
+
+abbrev pub dataWalk : Task → Cut → ℕ → Radial → ℕ → ℕ → ℕ → Rest → Walk
+dataWalk t c k r before start at re = walkAt due.Data (planOf t) (countAt k r before) (presentOf c r start) at re
+
+-- the rest of a radial, once the moments `read` are read
+abbrev pub restOf : Radial → List VolumeMoment → ℕ → Rest
+restOf r read len =
+    record { todo = r .«moment_number» - length read; left = r .«length_of_data» - tiled read; seen = typesOf read; length = len }
+
+-- the radial is whole
+abbrev pub wholeWalk : Task → Cut → ℕ → Radial → ℕ → ℕ → ℕ → Rest → Walk
+wholeWalk t c k r before start at re =
+    afterDataIf false (eqb (r .state) (closing (t .«scan_type») (t .«cut_number») k)) (ltb k (t .«cut_number»)) (dataWalk t c k r before start at re) at
+
+-- a cut is due, with so many to come
+abbrev pub nowhere : Present
+nowhere = record { start = 0; state = 0; sequence = 0; mask = 0; sizes = 0 }
+
+abbrev pub cutWalk : Task → ℕ → ℕ → ℕ → Walk
+cutWalk t j at todo = walkAt due.Cut (planOf t) (record { cut = j; whole = 0; «in_cut» = 0 }) nowhere at (record { todo = todo; left = 0; seen = 0; length = 0 })
+
+-- ---- each kind of block, settled by its rules
+
+pub holding : (rs : List Rule) (at : ℕ) (n : Walk) → Hold rs → settle (verdict rs) at n ≡ Took n
 unfolding settle
-settle-if v at n e = rw e
+holding rs at n k = rw (fine-if rs k)
+
+pub breaking : (rs : List Rule) (at : ℕ) (w : Walk) (n p : ℕ) → First rs n p → settle (verdict rs) at w ≡ Refused n (at + p)
+unfolding settle
+breaking rs at w n p k = rw (first-decides k)
 
 module _ (p : List ℕ) (w : Walk) where
-  pub takes-generic : (r : Generic) → genericOf (part 32 p (w .at)) ≡ r → Hold (genericRules r) → blockAt due.Generic p w ≡ Took (afterGeneric w (w .at + 32))
+  pub settles-generic : (r : Generic) → genericOf (part 32 p (w .at)) ≡ r → blockAt due.Generic p w ≡ settle (verdict (genericRules r)) (w .at) (afterGeneric w (w .at + 32))
   unfolding blockAt takeGeneric genericCheck genericAt
-  takes-generic r e k = ap (λ (x : Generic). takeGeneric x w) e ∙ settle-if _ _ _ (fine-if (genericRules r) k)
+  settles-generic r e = ap (λ (x : Generic). takeGeneric x w) e
 
-  pub takes-site : (r : Site) → siteOf (part 128 p (w .at)) ≡ r → Hold (siteRules r) → blockAt due.Site p w ≡ Took (afterSite w (w .at + 128))
+  pub settles-site : (r : Site) → siteOf (part 128 p (w .at)) ≡ r → blockAt due.Site p w ≡ settle (verdict (siteRules r)) (w .at) (afterSite w (w .at + 128))
   unfolding blockAt takeSite siteCheck siteAt
-  takes-site r e k = ap (λ (x : Site). takeSite x w) e ∙ settle-if _ _ _ (fine-if (siteRules r) k)
+  settles-site r e = ap (λ (x : Site). takeSite x w) e
 
-  pub takes-task : (r : Task) → taskOf (part 256 p (w .at)) ≡ r → Hold (taskRules r) → blockAt due.Task p w ≡ Took (afterTask (r .«scan_type») (r .«cut_number») w (w .at + 256))
+  pub settles-task : (r : Task) → taskOf (part 256 p (w .at)) ≡ r → blockAt due.Task p w ≡ settle (verdict (taskRules r)) (w .at) (afterTask (r .«scan_type») (r .«cut_number») w (w .at + 256))
   unfolding blockAt takeTask taskCheck taskAt
-  takes-task r e k = ap (λ (x : Task). takeTask x w) e ∙ settle-if _ _ _ (fine-if (taskRules r) k)
+  settles-task r e = ap (λ (x : Task). takeTask x w) e
 
-  pub takes-cut : (r : Cut) → cutOf (part 256 p (w .at)) ≡ r → Hold (cutRules r) → blockAt due.Cut p w ≡ Took (afterCut w (w .at + 256))
+  pub settles-cut : (r : Cut) → cutOf (part 256 p (w .at)) ≡ r → blockAt due.Cut p w ≡ settle (verdict (cutRules r)) (w .at) (afterCut w (w .at + 256))
   unfolding blockAt takeCut cutCheck cutAt
-  takes-cut r e k = ap (λ (x : Cut). takeCut x w) e ∙ settle-if _ _ _ (fine-if (cutRules r) k)
+  settles-cut r e = ap (λ (x : Cut). takeCut x w) e
 
-  pub takes-radial : (r : Radial) (c : Cut) → radialOf (part 64 p (w .at)) ≡ r → cutIn p w ≡ c → Hold (radialRules r (radialDue w))
-      → blockAt due.Radial p w ≡ Took (afterRadial r (c .«moments_mask») (c .«size_mask») w (w .at + 64))
+  pub settles-radial : (r : Radial) (c : Cut) → radialOf (part 64 p (w .at)) ≡ r → cutIn p w ≡ c
+      → blockAt due.Radial p w ≡ settle (verdict (radialRules r (radialDue w))) (w .at) (afterRadial r (c .«moments_mask») (c .«size_mask») w (w .at + 64))
   unfolding blockAt takeRadial radialCheck radialAt
-  takes-radial r c e d k =
-      ap₂ (λ (x : Radial) (y : Cut). takeRadial x y w) e d ∙ settle-if _ _ _ (fine-if (radialRules r (radialDue w)) k)
+  settles-radial r c e d = ap₂ (λ (x : Radial) (y : Cut). takeRadial x y w) e d
 
-  pub takes-moment : (r : Moment) → momentOf (part 32 p (w .at)) ≡ r → Hold (momentRules r (momentDue w)) → blockAt due.Moment p w ≡ Took (afterMoment r w (w .at + 32))
+  pub settles-moment : (r : Moment) → momentOf (part 32 p (w .at)) ≡ r → blockAt due.Moment p w ≡ settle (verdict (momentRules r (momentDue w))) (w .at) (afterMoment r w (w .at + 32))
   unfolding blockAt takeMoment momentCheck momentAt
-  takes-moment r e k = ap (λ (x : Moment). takeMoment x w) e ∙ settle-if _ _ _ (fine-if (momentRules r (momentDue w)) k)
+  settles-moment r e = ap (λ (x : Moment). takeMoment x w) e

@@ -3,15 +3,15 @@ use Prim.Native.Nat.{ℕ, suc, _+_, _*_}
 use mathlib.Core.List.{List, [], _∷_, _++_}
 use mathlib.Core.Path.{_≡_}
 use lib.ListN.{length}
-use mathlib.Core.Logic.{_⊎_}
 use Rattle.le.specs.Le.{Bytes}
 use Rattle.cut.specs.Cut.{cutSize}
 use Rattle.reading.specs.declared.Stretch.{Stretch}
-use Rattle.reading.specs.Reading.{told, stretches}
+use Rattle.reading.specs.Reading.{told, stop, stretches}
 use Rattle.generic.specs.Generic.{genericSize}
 use Rattle.site.specs.Site.{siteSize}
 use Rattle.task.specs.Task.{taskSize}
-use Rattle.volume.specs.Volume.{VolumeRadial, Volume, IsVolume, IsBeginning, bytesOfRadial, bytesOfVolume}
+use Rattle.volume.specs.Volume.{VolumeRadial, Volume, IsVolume, bytesOfRadial, bytesOfVolume}
+use Rattle.volume.specs.Accepted.{Accepted, nothing, generic, site, task, radials, radial, moment, volume, volumeOf, bytesOfAccepted, AcceptedOk, Says}
 
 -- where the radials of cut k lie that begin at place `at`, one behind the other
 abbrev pub layerStretches : ℕ → ℕ → List VolumeRadial → List Stretch
@@ -32,10 +32,14 @@ layersStretches k at (l ∷ ls) = layerStretches k at l ++ layersStretches (suc 
 abbrev pub firstPlace : Volume → ℕ
 firstPlace v = genericSize + siteSize + taskSize + cutSize * length (v .cuts)
 
+-- where a volume's radials lie
+abbrev pub volumeStretches : Volume → List Stretch
+volumeStretches v = layersStretches 1 (firstPlace v) (v .layers)
+
 -- a volume's bytes are complete, and its radials are the whole ones
 pub record Reads (v : Volume) : Type 0 where
   pub complete : told (bytesOfVolume v) ≡ 0 ∷ []
-  pub radials : stretches (bytesOfVolume v) ≡ layersStretches 1 (firstPlace v) (v .layers)
+  pub radials : stretches (bytesOfVolume v) ≡ volumeStretches v
 
 -- a file is a volume's bytes
 pub record Holds (f : List ℕ) : Type 0 where
@@ -43,18 +47,38 @@ pub record Holds (f : List ℕ) : Type 0 where
   pub is : IsVolume volume
   pub bytes : bytesOfVolume volume ≡ f
 
--- a file begins as a volume does, and the radials of that beginning are the file's whole ones
-pub record Begins (f : List ℕ) : Type 0 where
-  pub volume : Volume
-  pub is : IsBeginning volume
-  pub tail : List ℕ
-  pub bytes : bytesOfVolume volume ++ tail ≡ f
-  pub radials : stretches f ≡ layersStretches 1 (firstPlace volume) (volume .layers)
+-- where the whole radials of the accepted blocks lie
+abbrev pub acceptedStretches : Accepted → List Stretch
+acceptedStretches nothing = []
+acceptedStretches (generic g) = []
+acceptedStretches (site g s) = []
+acceptedStretches (task g s t cs) = []
+acceptedStretches (radials b) = volumeStretches (volumeOf b)
+acceptedStretches (radial b r) = volumeStretches (volumeOf b)
+acceptedStretches (moment b r m) = volumeStretches (volumeOf b)
+acceptedStretches (volume v) = volumeStretches v
 
--- What reading means: a volume's bytes are read as that volume, a complete file is some volume's bytes, and only one's; and
--- of any file the whole radials are those of a volume's beginning.
+-- of a file with these accepted blocks x is told, and they are what is read of it, their radials the whole ones
+pub record Told (f : List ℕ) (a : Accepted) (x : List ℕ) : Type 0 where
+  pub verdict : told f ≡ x
+  pub read : stop f .at ≡ length (bytesOfAccepted a)
+  pub radials : stretches f ≡ acceptedStretches a
+
+-- a file's accepted blocks are a volume's beginning, and what is told of it is what they and the bytes behind them say
+pub record Accepts (f : List ℕ) : Type 0 where
+  pub accepted : Accepted
+  pub is : AcceptedOk accepted
+  pub rest : List ℕ
+  pub bytes : bytesOfAccepted accepted ++ rest ≡ f
+  pub verdict : List ℕ
+  pub says : Says accepted rest verdict
+  pub told : Told f accepted verdict
+
+-- What reading means: a volume's bytes are read as that volume, a complete file is some volume's bytes, and only one's; what
+-- accepted blocks and the bytes behind them say is told of their file; and any file is such blocks and bytes that say it.
 pub record Means : Type 0 where
   pub reads : (v : Volume) → IsVolume v → Reads v
   pub holds : (f : List ℕ) → Bytes f → told f ≡ 0 ∷ [] → Holds f
   pub once : (v u : Volume) → IsVolume v → IsVolume u → bytesOfVolume v ≡ bytesOfVolume u → v ≡ u
-  pub begins : (f : List ℕ) → Bytes f → (stretches f ≡ []) ⊎ Begins f
+  pub tells : (a : Accepted) (rest x : List ℕ) → AcceptedOk a → Says a rest x → Told (bytesOfAccepted a ++ rest) a x
+  pub accepts : (f : List ℕ) → Bytes f → Accepts f

@@ -13,6 +13,7 @@ use Rattle.generic.specs.declared.Generic.{Generic}
 use Rattle.moment.specs.declared.Moment.{Moment}
 use Rattle.moment.specs.declared.MomentDue.{MomentDue}
 use Rattle.radial.specs.declared.Radial.{Radial}
+use Rattle.radial.specs.declared.RadialDue.{RadialDue}
 use Rattle.site.specs.declared.Site.{Site}
 use Rattle.task.specs.declared.Task.{Task}
 use Rattle.cut.specs.Cut.{cutBytes, cutRules, CutFits}
@@ -70,24 +71,29 @@ abbrev pub typesOf : List VolumeMoment → ℕ
 typesOf [] = 0
 typesOf (p ∷ ps) = withBit (typesOf ps) (p .header .«data_type»)
 
--- what a moment is judged against, behind the moments `before` of a radial of cut c, as the first of `todo`
-abbrev pub judged : Cut → Radial → List VolumeMoment → ℕ → MomentDue
-judged c r before todo =
-    record { mask = c .«moments_mask»; sizes = c .«size_mask»; seen = typesOf before; left = r .«length_of_data» - tiled before; todo = todo }
+-- what a moment is judged against, behind the moments `before` of a radial of cut c: so many are still to come
+abbrev pub judged : Cut → Radial → List VolumeMoment → MomentDue
+judged c r before =
+    record { mask = c .«moments_mask»; sizes = c .«size_mask»; seen = typesOf before; left = r .«length_of_data» - tiled before; todo = r .«moment_number» - length before }
 
 -- the moments that follow those `before` (the nearest first), each with its rules kept and its data as long as it says
 abbrev pub MomentsOk : Cut → Radial → List VolumeMoment → List VolumeMoment → Type 0
 MomentsOk c r before [] = Unit {0}
 MomentsOk c r before (p ∷ ps) =
     (MomentFits (p .header))
-    × Hold (momentRules (p .header) (judged c r before (length (p ∷ ps))))
+    × Hold (momentRules (p .header) (judged c r before))
     × (length (p .bytes) ≡ p .header .length)
     × MomentsOk c r (p ∷ before) ps
 
--- a radial of cut c, which is number k of the task's: `before` radials stand before it in the volume, `inCut` in its layer
+-- what a radial of cut number k is judged against: `before` radials stand before it in the volume, `inCut` in its layer
+abbrev pub judgedRadial : Task → ℕ → ℕ → ℕ → RadialDue
+judgedRadial t k before inCut =
+    record { «scan_type» = t .«scan_type»; cuts = t .«cut_number»; cut = k; before = before; «in_cut» = inCut }
+
+-- a radial of cut c, which is number k of the task's, with its moments
 pub record RadialOk (t : Task) (c : Cut) (k before inCut : ℕ) (b : VolumeRadial) : Type 0 where
   pub fits : RadialFits (b .header)
-  pub rules : Hold (radialRules (b .header) (record { «scan_type» = t .«scan_type»; cuts = t .«cut_number»; cut = k; before = before; «in_cut» = inCut }))
+  pub rules : Hold (radialRules (b .header) (judgedRadial t k before inCut))
   pub count : length (b .moments) ≡ b .header .«moment_number»
   pub moments : MomentsOk c (b .header) [] (b .moments)
 
@@ -113,11 +119,20 @@ abbrev pub CutsOk : List Cut → Type 0
 CutsOk [] = Unit {0}
 CutsOk (c ∷ cs) = CutFits c × Hold (cutRules c) × CutsOk cs
 
+abbrev pub GenericOk : Generic → Type 0
+GenericOk r = GenericFits r × Hold (genericRules r)
+
+abbrev pub SiteOk : Site → Type 0
+SiteOk r = SiteFits r × Hold (siteRules r)
+
+abbrev pub TaskOk : Task → Type 0
+TaskOk r = TaskFits r × Hold (taskRules r)
+
 -- the blocks before the radials, each with its rules kept, and as many cuts as the task says
 pub record Headed (v : Volume) : Type 0 where
-  pub generic : GenericFits (v .generic) × Hold (genericRules (v .generic))
-  pub site : SiteFits (v .site) × Hold (siteRules (v .site))
-  pub task : TaskFits (v .task) × Hold (taskRules (v .task))
+  pub generic : GenericOk (v .generic)
+  pub site : SiteOk (v .site)
+  pub task : TaskOk (v .task)
   pub number : length (v .cuts) ≡ v .task .«cut_number»
   pub cuts : CutsOk (v .cuts)
 
@@ -125,24 +140,3 @@ pub record Headed (v : Volume) : Type 0 where
 pub record IsVolume (v : Volume) : Type 0 where
   pub headed : Headed v
   pub layers : LayersOk (v .task) 1 0 (v .cuts) (v .layers)
-
--- ---- a beginning of a volume: its layers up to some radial
-
--- the first radials of the rest of a layer: none but the last may close the cut
-abbrev pub LayerBegun : Task → Cut → ℕ → ℕ → ℕ → List VolumeRadial → Type 0
-LayerBegun t c k before inCut [] = Unit {0}
-LayerBegun t c k before inCut (b ∷ []) = RadialOk t c k before inCut b
-LayerBegun t c k before inCut (b ∷ (n ∷ ns)) =
-    RadialOk t c k before inCut b × (Closes t k b → ⊥) × LayerBegun t c k (suc before) (suc inCut) (n ∷ ns)
-
--- the first layers from cut number k on, of which the last may be begun only; `inCut` radials of the first stand before them
-abbrev pub LayersBegun : Task → ℕ → ℕ → ℕ → List Cut → List (List VolumeRadial) → Type 0
-LayersBegun t k before inCut cs [] = Unit {0}
-LayersBegun t k before inCut [] (l ∷ ls) = ⊥
-LayersBegun t k before inCut (c ∷ cs) (l ∷ []) = LayerBegun t c k before inCut l
-LayersBegun t k before inCut (c ∷ cs) (l ∷ (m ∷ ms)) =
-    LayerOk t c k before inCut l × LayersBegun t (suc k) (before + length l) 0 cs (m ∷ ms)
-
-pub record IsBeginning (v : Volume) : Type 0 where
-  pub headed : Headed v
-  pub layers : LayersBegun (v .task) 1 0 0 (v .cuts) (v .layers)
