@@ -1,6 +1,6 @@
 -- That the definition says what document 01 says in other words: the moments fill the length of data ("Tiling"), and a cut has at
 -- least two radials ("States"). Assumes nothing.
-use Prim.Native.Nat.{ℕ, _+_, _%_}
+use Prim.Native.Nat.{ℕ, _+_, _-_, _%_}
 use native.Mathlib.Omega.{arith}
 use mathlib.Core.Path.{_≡_, sym, _∙_}
 use mathlib.Core.Bool.{Bool, true, false, cond, _&&_}
