@@ -7,6 +7,8 @@ pub mod Grow
 pub mod Tells
 pub mod Accepts
 pub mod Same
+pub mod SameBegun
+pub mod Once
 pub mod Meaning
 pub mod Placed
 pub mod Sense

@@ -1,5 +1,5 @@
--- Two volumes with the same bytes are the same: each part's bytes say where it ends. Assumes nothing.
-use Prim.Native.Nat.{ℕ, suc, _+_, _-_}
+-- Two parts of volumes with the same bytes are the same: each part's bytes say where it ends. Assumes nothing.
+use Prim.Native.Nat.{ℕ, suc, _+_}
 use native.Mathlib.Omega.{arith}
 use mathlib.Core.Path.{_≡_, refl, sym, ap, ap₂, subst, _∙_}
 use mathlib.Core.List.{List, [], _∷_, _++_, append-assoc}
@@ -10,30 +10,21 @@ use Rattle.moment.specs.declared.Moment.{Moment}
 use Rattle.radial.specs.declared.Radial.{Radial}
 use Rattle.task.specs.declared.Task.{Task}
 use Rattle.cut.specs.Cut.{cutBytes}
-use Rattle.generic.specs.Generic.{genericBytes}
 use Rattle.moment.specs.Moment.{momentBytes}
 use Rattle.radial.specs.Radial.{radialBytes}
-use Rattle.site.specs.Site.{siteBytes}
-use Rattle.task.specs.Task.{taskBytes}
 use Rattle.le.proofs.Here.{split}
 use Rattle.le.proofs.Coded.{same}
-use Rattle.generic.proofs.Trips as generic-trip
-use Rattle.site.proofs.Trips as site-trip
-use Rattle.task.proofs.Trips as task-trip
 use Rattle.cut.proofs.Trips as cut-trip
 use Rattle.radial.proofs.Trips as radial-trip
 use Rattle.moment.proofs.Trips as moment-trip
-use Rattle.volume.specs.Volume.{VolumeMoment, VolumeRadial, Volume, bytesOfMoment, bytesOfRadial, bytesOfVolume, MomentsOk, RadialOk, Closes, LayerOk, LayersOk, CutsOk, IsVolume}
+use Rattle.volume.specs.Volume.{VolumeMoment, VolumeRadial, bytesOfMoment, bytesOfRadial, MomentsOk, RadialOk, Closes, LayerOk, LayersOk, CutsOk}
 
 -- ---- moments, radials, layers
 
-same-moments : (c d : Cut) (r q : Radial) (us vs ps qs : List VolumeMoment) (g h : List ℕ) → MomentsOk c r us ps → MomentsOk d q vs qs → length ps ≡ length qs → run bytesOfMoment ps ++ g ≡ run bytesOfMoment qs ++ h
-    → (ps ≡ qs) × (g ≡ h)
+pub first-moment : (c d : Cut) (r q : Radial) (us vs xs ys : List VolumeMoment) (x y : VolumeMoment) (g h : List ℕ) → MomentsOk c r us (x ∷ xs) → MomentsOk d q vs (y ∷ ys) → run bytesOfMoment (x ∷ xs) ++ g ≡ run bytesOfMoment (y ∷ ys) ++ h
+    → (x ≡ y) × (run bytesOfMoment xs ++ g ≡ run bytesOfMoment ys ++ h)
 unfolding run
-same-moments c d r q us vs [] [] g h ok ko n e = (refl, e)
-same-moments c d r q us vs [] (y ∷ ys) g h ok ko n e = absurd (omega arith)
-same-moments c d r q us vs (x ∷ xs) [] g h ok ko n e = absurd (omega arith)
-same-moments c d r q us vs (x ∷ xs) (y ∷ ys) g h ok ko n e =
+first-moment c d r q us vs xs ys x y g h ok ko e =
     let m = x .header in
     let k = y .header in
     let gx = run bytesOfMoment xs ++ g in
@@ -41,11 +32,21 @@ same-moments c d r q us vs (x ∷ xs) (y ∷ ys) g h ok ko n e =
     let e′ : momentBytes m ++ (x .bytes ++ gx) ≡ momentBytes k ++ (y .bytes ++ gy) = sym (apart (momentBytes m) (x .bytes) (run bytesOfMoment xs) g) ∙ e ∙ apart (momentBytes k) (y .bytes) (run bytesOfMoment ys) h in
     let s = same moment-trip.coded m k (x .bytes ++ gx) (y .bytes ++ gy) (ok .0) (ko .0) e′ in
     let p = split (x .bytes) (y .bytes) gx gy (ok .2 ∙ ap (λ (z : Moment). z .length) (s .0) ∙ sym (ko .2)) (s .1) in
-    let o = same-moments c d r q (x ∷ us) (y ∷ vs) xs ys g h (ok .3) (ko .3) (omega arith) (p .1) in
-    (ap₂ (λ (a : VolumeMoment) (l : List VolumeMoment). a ∷ l) (λ i. record { header = s .0 i; bytes = p .0 i }) (o .0), o .1)
+    (λ i. record { header = s .0 i; bytes = p .0 i }, p .1)
   where
     apart : (a b c d : List ℕ) → ((a ++ b) ++ c) ++ d ≡ a ++ (b ++ (c ++ d))
     apart a b c d = simp append-assoc
+
+pub same-moments : (c d : Cut) (r q : Radial) (us vs ps qs : List VolumeMoment) (g h : List ℕ) → MomentsOk c r us ps → MomentsOk d q vs qs → length ps ≡ length qs → run bytesOfMoment ps ++ g ≡ run bytesOfMoment qs ++ h
+    → (ps ≡ qs) × (g ≡ h)
+unfolding run
+same-moments c d r q us vs [] [] g h ok ko n e = (refl, e)
+same-moments c d r q us vs [] (y ∷ ys) g h ok ko n e = absurd (omega arith)
+same-moments c d r q us vs (x ∷ xs) [] g h ok ko n e = absurd (omega arith)
+same-moments c d r q us vs (x ∷ xs) (y ∷ ys) g h ok ko n e =
+    let p = first-moment c d r q us vs xs ys x y g h ok ko e in
+    let o = same-moments c d r q (x ∷ us) (y ∷ vs) xs ys g h (ok .3) (ko .3) (omega arith) (p .1) in
+    (ap₂ (λ (a : VolumeMoment) (l : List VolumeMoment). a ∷ l) (p .0) (o .0), o .1)
 
 same-radial : (t u : Task) (c d : Cut) (k l i j m n : ℕ) (x y : VolumeRadial) (g h : List ℕ) → RadialOk t c k i m x → RadialOk u d l j n y → bytesOfRadial x ++ g ≡ bytesOfRadial y ++ h → (x ≡ y) × (g ≡ h)
 same-radial t u c d k l i j m n x y g h ok ko e =
@@ -58,17 +59,17 @@ same-radial t u c d k l i j m n x y g h ok ko e =
     let p = same-moments c d r q [] [] (x .moments) (y .moments) g h (ok .moments) (ko .moments) (ok .count ∙ ap (λ (z : Radial). z .«moment_number») (s .0) ∙ sym (ko .count)) (s .1) in
     (λ i. record { header = s .0 i; moments = p .0 i }, p .1)
 
-closes-same : (t : Task) (k : ℕ) (x y : VolumeRadial) → x ≡ y → Closes t k x → Closes t k y
+pub closes-same : (t : Task) (k : ℕ) (x y : VolumeRadial) → x ≡ y → Closes t k x → Closes t k y
 closes-same t k x y e h = subst (λ (b : VolumeRadial). Closes t k b) e h
 
 module _ (t : Task) (c : Cut) (k : ℕ) where
-  first-radial : (i j m n : ℕ) (x y : VolumeRadial) (xs ys : List VolumeRadial) (g h : List ℕ) → RadialOk t c k i m x → RadialOk t c k j n y → run bytesOfRadial (x ∷ xs) ++ g ≡ run bytesOfRadial (y ∷ ys) ++ h
+  pub first-radial : (i j m n : ℕ) (x y : VolumeRadial) (xs ys : List VolumeRadial) (g h : List ℕ) → RadialOk t c k i m x → RadialOk t c k j n y → run bytesOfRadial (x ∷ xs) ++ g ≡ run bytesOfRadial (y ∷ ys) ++ h
       → (x ≡ y) × (run bytesOfRadial xs ++ g ≡ run bytesOfRadial ys ++ h)
   unfolding run
   first-radial i j m n x y xs ys g h ok ko e =
       same-radial t t c c k k i j m n x y (run bytesOfRadial xs ++ g) (run bytesOfRadial ys ++ h) ok ko (sym (append-assoc (bytesOfRadial x) (run bytesOfRadial xs) g) ∙ e ∙ append-assoc (bytesOfRadial y) (run bytesOfRadial ys) h)
 
-  same-layer : (i j m n : ℕ) (xs ys : List VolumeRadial) (g h : List ℕ) → LayerOk t c k i m xs → LayerOk t c k j n ys → run bytesOfRadial xs ++ g ≡ run bytesOfRadial ys ++ h → (xs ≡ ys) × (g ≡ h)
+  pub same-layer : (i j m n : ℕ) (xs ys : List VolumeRadial) (g h : List ℕ) → LayerOk t c k i m xs → LayerOk t c k j n ys → run bytesOfRadial xs ++ g ≡ run bytesOfRadial ys ++ h → (xs ≡ ys) × (g ≡ h)
   unfolding run
   same-layer i j m n [] ys g h ok ko e = absurd ok
   same-layer i j m n (x ∷ []) [] g h ok ko e = absurd ko
@@ -81,7 +82,7 @@ module _ (t : Task) (c : Cut) (k : ℕ) where
       let o = same-layer (suc i) (suc j) (suc m) (suc n) (p ∷ ps) (q ∷ qs) g h (ok .2) (ko .2) (s .1) in
       (ap₂ (λ (b : VolumeRadial) (l : List VolumeRadial). b ∷ l) (s .0) (o .0), o .1)
 
-same-layers : (t : Task) (cs : List Cut) (k i j : ℕ) (ls ms : List (List VolumeRadial)) → LayersOk t k i cs ls → LayersOk t k j cs ms → run (run bytesOfRadial) ls ≡ run (run bytesOfRadial) ms → ls ≡ ms
+pub same-layers : (t : Task) (cs : List Cut) (k i j : ℕ) (ls ms : List (List VolumeRadial)) → LayersOk t k i cs ls → LayersOk t k j cs ms → run (run bytesOfRadial) ls ≡ run (run bytesOfRadial) ms → ls ≡ ms
 unfolding run
 same-layers t [] k i j [] [] ok ko e = refl
 same-layers t [] k i j [] (m ∷ ms) ok ko e = absurd ko
@@ -92,9 +93,9 @@ same-layers t (c ∷ cs) k i j (l ∷ ls) (m ∷ ms) ok ko e =
     let s = same-layer t c k i j 0 0 l m (run (run bytesOfRadial) ls) (run (run bytesOfRadial) ms) (ok .0) (ko .0) e in
     ap₂ (λ (a : List VolumeRadial) (b : List (List VolumeRadial)). a ∷ b) (s .0) (same-layers t cs (suc k) (i + length l) (j + length m) ls ms (ok .1) (ko .1) (s .1))
 
--- ---- cuts, and the whole
+-- ---- cuts
 
-same-cuts : (cs ds : List Cut) (g h : List ℕ) → CutsOk cs → CutsOk ds → length cs ≡ length ds → run cutBytes cs ++ g ≡ run cutBytes ds ++ h → (cs ≡ ds) × (g ≡ h)
+pub same-cuts : (cs ds : List Cut) (g h : List ℕ) → CutsOk cs → CutsOk ds → length cs ≡ length ds → run cutBytes cs ++ g ≡ run cutBytes ds ++ h → (cs ≡ ds) × (g ≡ h)
 unfolding run
 same-cuts [] [] g h ok ko n e = (refl, e)
 same-cuts [] (d ∷ ds) g h ok ko n e = absurd (omega arith)
@@ -104,23 +105,3 @@ same-cuts (c ∷ cs) (d ∷ ds) g h ok ko n e =
     (sym (append-assoc (cutBytes c) (run cutBytes cs) g) ∙ e ∙ append-assoc (cutBytes d) (run cutBytes ds) h) in
     let o = same-cuts cs ds g h (ok .2) (ko .2) (omega arith) (s .1) in
     (ap₂ (λ (a : Cut) (l : List Cut). a ∷ l) (s .0) (o .0), o .1)
-
-pub same-volume : (v u : Volume) → IsVolume v → IsVolume u → bytesOfVolume v ≡ bytesOfVolume u → v ≡ u
-same-volume v u ok ko e =
-    let rest : Volume → List ℕ = λ x. run cutBytes (x .cuts) ++ run (run bytesOfRadial) (x .layers) in
-    let e0 : genericBytes (v .generic) ++ (siteBytes (v .site) ++ (taskBytes (v .task) ++ rest v)) ≡ genericBytes (u .generic) ++ (siteBytes (u .site) ++ (taskBytes (u .task) ++ rest u)) =
-    sym (apart (genericBytes (v .generic)) (siteBytes (v .site)) (taskBytes (v .task)) (run cutBytes (v .cuts)) (run (run bytesOfRadial) (v .layers)))
-    ∙ e
-    ∙ apart (genericBytes (u .generic)) (siteBytes (u .site)) (taskBytes (u .task)) (run cutBytes (u .cuts)) (run (run bytesOfRadial) (u .layers)) in
-    let s0 = same generic-trip.coded (v .generic) (u .generic) _ _ (ok .headed .generic .0) (ko .headed .generic .0) e0 in
-    let s1 = same site-trip.coded (v .site) (u .site) _ _ (ok .headed .site .0) (ko .headed .site .0) (s0 .1) in
-    let s2 = same task-trip.coded (v .task) (u .task) _ _ (ok .headed .task .0) (ko .headed .task .0) (s1 .1) in
-    let s3 = same-cuts (v .cuts) (u .cuts) _ _ (ok .headed .cuts) (ko .headed .cuts) (ok .headed .number ∙ ap (λ (t : Task). t .«cut_number») (s2 .0) ∙ sym (ko .headed .number)) (s2 .1) in
-    let s4 = same-layers (v .task) (v .cuts) 1 0 0 (v .layers) (u .layers) (ok .layers) (moved (v .task) (u .task) (v .cuts) (u .cuts) (u .layers) (s2 .0) (s3 .0) (ko .layers)) (s3 .1) in
-    λ i. record { generic = s0 .0 i; site = s1 .0 i; task = s2 .0 i; cuts = s3 .0 i; layers = s4 i }
-  where
-    apart : (a b c d e : List ℕ) → (((a ++ b) ++ c) ++ d) ++ e ≡ a ++ (b ++ (c ++ (d ++ e)))
-    apart a b c d e = simp append-assoc
-
-    moved : (t u : Task) (cs ds : List Cut) (ls : List (List VolumeRadial)) → t ≡ u → cs ≡ ds → LayersOk u 1 0 ds ls → LayersOk t 1 0 cs ls
-    moved t u cs ds ls e d o = subst (λ (x : Task). LayersOk x 1 0 cs ls) (sym e) (subst (λ (x : List Cut). LayersOk u 1 0 x ls) (sym d) o)

@@ -16,7 +16,7 @@ use Rattle.site.specs.Site.{siteBytes}
 use Rattle.task.specs.Task.{taskBytes, taskOf, taskAt, taskRules}
 use Rattle.reading.specs.Reading.{told, stop, stretches}
 use Rattle.volume.specs.Volume.{bytesOfVolume}
-use Rattle.volume.specs.Accepted.{Begun, Accepted, nothing, site, moment, volume, AcceptedOk, bytesOfAccepted, missing, follow, broken}
+use Rattle.volume.specs.Accepted.{Accepted, nothing, site, moment, volume, AcceptedOk, bytesOfAccepted, missing, follow, broken}
 use Rattle.volume.specs.Meaning.{Told}
 use Rattle.volume.proofs.Tells.{tells}
 use Rattle.volume.proofs.Small.{small-generic, small-site, small-task, small-cut, small-radial, small-moment, small-whole, small, small-is, small-length}

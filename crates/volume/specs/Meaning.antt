@@ -75,10 +75,11 @@ pub record Accepts (f : List ℕ) : Type 0 where
   pub told : Told f accepted verdict
 
 -- What reading means: a volume's bytes are read as that volume, a complete file is some volume's bytes, and only one's; what
--- accepted blocks and the bytes behind them say is told of their file; and any file is such blocks and bytes that say it.
+-- accepted blocks and the bytes behind them say is told of their file; any file is such blocks and bytes, and only one way.
 pub record Means : Type 0 where
   pub reads : (v : Volume) → IsVolume v → Reads v
   pub holds : (f : List ℕ) → Bytes f → told f ≡ 0 ∷ [] → Holds f
   pub once : (v u : Volume) → IsVolume v → IsVolume u → bytesOfVolume v ≡ bytesOfVolume u → v ≡ u
   pub tells : (a : Accepted) (rest x : List ℕ) → AcceptedOk a → Says a rest x → Told (bytesOfAccepted a ++ rest) a x
   pub accepts : (f : List ℕ) → Bytes f → Accepts f
+  pub one : (a b : Accepted) (rest q x y : List ℕ) → AcceptedOk a → AcceptedOk b → Says a rest x → Says b q y → bytesOfAccepted a ++ rest ≡ bytesOfAccepted b ++ q → (a ≡ b) × (rest ≡ q)
