@@ -1,12 +1,12 @@
 -- What stands in a file from a place on, taken apart at the front. Assumes nothing.
 use Prim.Native.Nat.{ℕ, _+_, _-_, _≤_}
 use native.Mathlib.Omega.{arith}
-use mathlib.Core.Path.{_≡_, refl, sym, ap, _∙_}
+use mathlib.Core.Path.{_≡_, refl, sym, ap, subst, _∙_}
 use mathlib.Core.List.{List, _++_}
 use lib.ListN.{length, take, drop, length-append, length-drop, take-append-drop}
 use lib.Seq.{drop-drop, take-at, drop-at}
-use Rattle.le.specs.Le.{part}
-use Rattle.le.proofs.Laws.{part-take, part-here}
+use Rattle.le.specs.Le.{part, Bytes}
+use Rattle.le.proofs.Laws.{part-take, part-here, part-bytes, to-end}
 
 -- from place `at` on the file is g
 pub record At (f : List ℕ) (at : ℕ) (g : List ℕ) : Type 0 where
@@ -41,3 +41,10 @@ split x y g h l e = (
   sym (take-at x g (length x) refl) ∙ ap (take (length x)) e ∙ take-at y h (length x) (sym l),
   sym (drop-at x g (length x) refl) ∙ ap (drop (length x)) e ∙ drop-at y h (length x) (sym l),
 )
+
+-- what follows some bytes are bytes
+pub drop-bytes : (f : List ℕ) (n : ℕ) → n ≤ length f → Bytes f → Bytes (drop n f)
+drop-bytes f n h bs =
+    let m = length f - n in
+    let e : part m f n ≡ drop n f = sym (part-here m f n (omega arith)) ∙ to-end f n m (omega arith) in
+    subst Bytes e (part-bytes m f n bs)

@@ -327,3 +327,13 @@ module _ (f : List ℕ) (at : ℕ) where
       rw (e, add-one i, part-snoc i, drop-cons d i 0 h)
       (set-at (part i f at) (getD d i 0) (drop (suc i) d) (getD f (at + i) 0) i (length-part i f at)
       ∙ sym (append-snoc (part i f at) (getD f (at + i) 0) (drop (suc i) d)))
+
+-- a run of two lists, and of one element more
+pub run-append : {A : Type 0} (enc : A → List ℕ) (a b : List A) → run enc (a ++ b) ≡ run enc a ++ run enc b
+unfolding run
+run-append enc [] b = refl
+run-append enc (x ∷ xs) b = ap (λ (l : List ℕ). enc x ++ l) (run-append enc xs b) ∙ sym (append-assoc (enc x) (run enc xs) (run enc b))
+
+pub run-end : {A : Type 0} (enc : A → List ℕ) (a : List A) (x : A) → run enc (a ++ (x ∷ [])) ≡ run enc a ++ enc x
+unfolding run
+run-end enc a x = run-append enc a (x ∷ []) ∙ ap (λ (l : List ℕ). run enc a ++ l) (append-nil (enc x))

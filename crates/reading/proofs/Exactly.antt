@@ -2,17 +2,17 @@
 -- step that takes no block. Assumes nothing.
 use Prim.Native.Nat.{ℕ, _+_, _-_, _<_, _≤_}
 use native.Mathlib.Omega.{arith}
-use mathlib.Core.Path.{_≡_, refl, sym, ap, subst, _∙_}
+use mathlib.Core.Path.{_≡_, refl, sym, ap, ap₂, subst, _∙_}
 use mathlib.Core.Bool.{true, false}
 use mathlib.Core.List.{List, [], _∷_}
 use lib.Dec.{lit<}
 use lib.ListN.{length, take}
 use Rattle.le.specs.Le.{part}
 use Rattle.le.proofs.Laws.{part-take}
-use Rattle.rules.specs.Check.{Rule, verdict, First, here, behind}
+use Rattle.rules.specs.Check.{Rule, verdict, Hold, First, here, behind}
 use Rattle.rules.specs.declared.check.Check.{Check}
 use Rattle.rules.specs.declared.check.Check.the-variants.{Fine, Broken}
-use Rattle.rules.proofs.Judged.{first-decides, decided-first}
+use Rattle.rules.proofs.Judged.{fine-if, first-decides, decided-first}
 use Rattle.cut.specs.declared.Cut.{Cut}
 use Rattle.generic.specs.declared.Generic.{Generic}
 use Rattle.moment.specs.declared.Moment.{Moment}
@@ -28,11 +28,11 @@ use Rattle.task.specs.Task.{taskOf, taskAt, taskCheck, taskRules}
 use Rattle.walk.specs.declared.due.Due.{Due}
 use Rattle.walk.specs.declared.due.Due.the-variants as due
 use Rattle.walk.specs.declared.due.Walk.{Walk}
-use Rattle.walk.specs.After.{afterData}
+use Rattle.walk.specs.After.{afterGeneric, afterSite, afterTask, afterCut, afterRadial, afterMoment}
 use Rattle.walk.specs.Due.{sizeAt, sizeOf, isEnd, radialDue, momentDue, atStart}
 use Rattle.reading.specs.declared.step.Step.{Step}
 use Rattle.reading.specs.declared.step.Step.the-variants.{Took, Open, Refused, Complete}
-use Rattle.reading.specs.Step.{settle, takeGeneric, takeSite, takeTask, takeCut, takeRadial, takeMoment, takeData, blockAt, stepOf}
+use Rattle.reading.specs.Step.{settle, takeGeneric, takeSite, takeTask, takeCut, takeRadial, takeMoment, takeData, cutIn, blockAt, stepOf}
 use Rattle.reading.specs.Reading.{fuel, stop, ending, endingTold, told}
 use Rattle.reading.specs.Exactly.{rulesOf, IsRefused, rule, trailing, IsOpen, IsComplete, ToldExactly}
 use Rattle.reading.proofs.Run.{View, short, over, done, view, is-here, is-short, is-over, is-done, ended, opened, last-within}
@@ -61,30 +61,59 @@ step-open Complete n e = cc
 step-open (Open m) n e = cc
 step-open (Refused m q) n e = cc
 
--- ---- a block that is there is settled by the rules of its list
+-- ---- each kind of block is settled by the rules of its list
+
+pub holding : (rs : List Rule) (at : ℕ) (n : Walk) → Hold rs → settle (verdict rs) at n ≡ Took n
+unfolding settle
+holding rs at n k = rw (fine-if rs k)
+
+pub breaking : (rs : List Rule) (at : ℕ) (w : Walk) (n p : ℕ) → First rs n p → settle (verdict rs) at w ≡ Refused n (at + p)
+unfolding settle
+breaking rs at w n p k = rw (first-decides k)
+
+module _ (p : List ℕ) (w : Walk) where
+  pub settles-generic : (r : Generic) → genericOf (part 32 p (w .at)) ≡ r → blockAt due.Generic p w ≡ settle (verdict (genericRules r)) (w .at) (afterGeneric w (w .at + 32))
+  unfolding blockAt takeGeneric genericCheck genericAt
+  settles-generic r e = ap (λ (x : Generic). takeGeneric x w) e
+
+  pub settles-site : (r : Site) → siteOf (part 128 p (w .at)) ≡ r → blockAt due.Site p w ≡ settle (verdict (siteRules r)) (w .at) (afterSite w (w .at + 128))
+  unfolding blockAt takeSite siteCheck siteAt
+  settles-site r e = ap (λ (x : Site). takeSite x w) e
+
+  pub settles-task : (r : Task) → taskOf (part 256 p (w .at)) ≡ r → blockAt due.Task p w ≡ settle (verdict (taskRules r)) (w .at) (afterTask (r .«scan_type») (r .«cut_number») w (w .at + 256))
+  unfolding blockAt takeTask taskCheck taskAt
+  settles-task r e = ap (λ (x : Task). takeTask x w) e
+
+  pub settles-cut : (r : Cut) → cutOf (part 256 p (w .at)) ≡ r → blockAt due.Cut p w ≡ settle (verdict (cutRules r)) (w .at) (afterCut w (w .at + 256))
+  unfolding blockAt takeCut cutCheck cutAt
+  settles-cut r e = ap (λ (x : Cut). takeCut x w) e
+
+  pub settles-radial : (r : Radial) (c : Cut) → radialOf (part 64 p (w .at)) ≡ r → cutIn p w ≡ c
+      → blockAt due.Radial p w ≡ settle (verdict (radialRules r (radialDue w))) (w .at) (afterRadial r (c .«moments_mask») (c .«size_mask») w (w .at + 64))
+  unfolding blockAt takeRadial radialCheck radialAt
+  settles-radial r c e d = ap₂ (λ (x : Radial) (y : Cut). takeRadial x y w) e d
+
+  pub settles-moment : (r : Moment) → momentOf (part 32 p (w .at)) ≡ r → blockAt due.Moment p w ≡ settle (verdict (momentRules r (momentDue w))) (w .at) (afterMoment r w (w .at + 32))
+  unfolding blockAt takeMoment momentCheck momentAt
+  settles-moment r e = ap (λ (x : Moment). takeMoment x w) e
 
 pub record Settled (d : Due) (f : List ℕ) (w : Walk) : Type 0 where
   pub next : Walk
   pub is : blockAt d (take (w .at + sizeAt d (w .rest .length)) f) w ≡ settle (verdict (rulesOf d f w)) (w .at) next
 
-same-verdict : {A : Type 0} (dec : List ℕ → A) (rules : A → List Rule) (size : ℕ) (f : List ℕ) (at : ℕ) (next : Walk)
-    → settle (verdict (rules (dec (part size (take (at + size) f) at)))) at next ≡ settle (verdict (rules (dec (part size f at)))) at next
-same-verdict dec rules size f at next =
-    ap (λ (x : List ℕ). settle (verdict (rules (dec x))) at next) (part-take size f at (at + size) (omega arith))
+-- in the file, as in the part of it that ends with the block
+there : (n : ℕ) (f : List ℕ) (w : Walk) → part n (take (w .at + n) f) (w .at) ≡ part n f (w .at)
+there n f w = part-take n f (w .at) (w .at + n) (omega arith)
 
-settled-data : (f : List ℕ) (w : Walk) → Settled due.Data f w
-unfolding blockAt takeData rulesOf settle
-settled-data f w = record { next = afterData w (w .at + w .rest .length); is = refl }
-
-pub settled : (d : Due) (f : List ℕ) (w : Walk) → isEnd d ≡ false → Settled d f w
-unfolding blockAt takeGeneric takeSite takeTask takeCut takeRadial takeMoment genericCheck siteCheck taskCheck cutCheck radialCheck momentCheck genericAt siteAt taskAt cutAt radialAt momentAt rulesOf sizeAt isEnd
-settled due.Generic f w i = record { next = _; is = same-verdict genericOf genericRules 32 f (w .at) _ }
-settled due.Site f w i = record { next = _; is = same-verdict siteOf siteRules 128 f (w .at) _ }
-settled due.Task f w i = record { next = _; is = same-verdict taskOf taskRules 256 f (w .at) _ }
-settled due.Cut f w i = record { next = _; is = same-verdict cutOf cutRules 256 f (w .at) _ }
-settled due.Radial f w i = record { next = _; is = same-verdict radialOf (λ r. radialRules r (radialDue w)) 64 f (w .at) _ }
-settled due.Moment f w i = record { next = _; is = same-verdict momentOf (λ r. momentRules r (momentDue w)) 32 f (w .at) _ }
-settled due.Data f w i = settled-data f w
+settled : (d : Due) (f : List ℕ) (w : Walk) → isEnd d ≡ false → Settled d f w
+unfolding blockAt takeData genericAt siteAt taskAt cutAt radialAt momentAt rulesOf sizeAt isEnd
+settled due.Generic f w i = record { next = _; is = settles-generic _ w _ (ap genericOf (there 32 f w)) }
+settled due.Site f w i = record { next = _; is = settles-site _ w _ (ap siteOf (there 128 f w)) }
+settled due.Task f w i = record { next = _; is = settles-task _ w _ (ap taskOf (there 256 f w)) }
+settled due.Cut f w i = record { next = _; is = settles-cut _ w _ (ap cutOf (there 256 f w)) }
+settled due.Radial f w i = record { next = _; is = settles-radial _ w _ _ (ap radialOf (there 64 f w)) refl }
+settled due.Moment f w i = record { next = _; is = settles-moment _ w _ (ap momentOf (there 32 f w)) }
+settled due.Data f w i = record { next = _; is = sym (holding [] (w .at) _ tt) }
 settled due.Nothing f w i = absurd (let z : _≡_ {A = ℕ} 0 1 = cc in omega arith)
 
 -- the place of each rule of a list lies within so many bytes
@@ -152,10 +181,10 @@ module _ (f : List ℕ) where
   refused-only (by-end i h) = trailing i h
 
   refused-when : {n p : ℕ} → IsRefused f n p → told f ≡ 2 ∷ n ∷ p ∷ []
-  unfolding endingTold settle
+  unfolding endingTold
   refused-when (rule n q i h x) =
       let s = settled (stop f .due) f (stop f) i in
-      ap endingTold (is-here f (stop f) i h ∙ s .is ∙ ap (λ (v : Check). settle v (stop f .at) (s .next)) (first-decides x))
+      ap endingTold (is-here f (stop f) i h ∙ s .is ∙ breaking _ (stop f .at) (s .next) n q x)
   refused-when (trailing i h) = ap endingTold (is-over f (stop f) i h)
 
   open-only : (n : ℕ) → told f ≡ 1 ∷ n ∷ [] → IsOpen f n

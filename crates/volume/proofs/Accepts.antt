@@ -9,7 +9,7 @@ use mathlib.Core.List.{List, [], _∷_, _++_, append-assoc, append-nil}
 use lib.ListN.{length, drop, length-append}
 use Rattle.le.specs.Le.{part, Bytes}
 use Rattle.le.proofs.Laws.{length-part, part-here, part-bytes, to-end}
-use Rattle.le.proofs.Here.{cut-here}
+use Rattle.le.proofs.Here.{drop-bytes, cut-here}
 use Rattle.le.proofs.Coded.{Coded, stood}
 use Rattle.rules.specs.Check.{Rule, verdict, Hold, First}
 use Rattle.rules.specs.declared.check.Check.{Check}
@@ -33,13 +33,6 @@ use Rattle.volume.specs.Accepted.{Accepted, nothing, generic, site, task
 use Rattle.volume.specs.Meaning.{Holds, Told, Accepts}
 use Rattle.volume.proofs.Grow.{tag, Next, next-generic, next-site, next-task, next-cut, next-radial, next-moment, next-data}
 use Rattle.volume.proofs.Tells.{tells}
-
--- what follows some bytes are bytes
-drop-bytes : (f : List ℕ) (n : ℕ) → n ≤ length f → Bytes f → Bytes (drop n f)
-drop-bytes f n h bs =
-    let m = length f - n in
-    let e : part m f n ≡ drop n f = sym (part-here m f n (omega arith)) ∙ to-end f n m (omega arith) in
-    subst Bytes e (part-bytes m f n bs)
 
 -- ---- the due block: it says what is told, or is accepted
 

@@ -35,7 +35,8 @@ use Rattle.le.proofs.Here.{At, here}
 use Rattle.le.proofs.Coded.{stands}
 use Rattle.radial.proofs.Header.{header}
 use Rattle.volume.proofs.Runs.{Finishes, before-block}
-use Rattle.volume.proofs.Takes.{radialWalk, closedWalk, presentOf, momentWalk, dataWalk, restOf, wholeWalk, holding, settles-moment, settles-radial}
+use Rattle.reading.proofs.Exactly.{holding, settles-moment, settles-radial}
+use Rattle.volume.proofs.Takes.{radialWalk, closedWalk, presentOf, momentWalk, dataWalk, restOf, wholeWalk}
 
 module _ (f : List ℕ) (E : Walk → Type 0) (t : Task) (c : Cut) (k : ℕ) where
   -- ---- a radial's moments

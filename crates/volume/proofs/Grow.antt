@@ -9,6 +9,7 @@ use mathlib.Core.List.{List, [], _∷_, _++_, append-assoc, append-nil, reverseA
 use lib.Dec.{eqb}
 use lib.ListN.{length, length-append}
 use borrow.Author.Tests.{eqb-true, eqb-false}
+use Rattle.le.proofs.Laws.{run-append, run-end}
 use Rattle.le.specs.Le.{run}
 use Rattle.rules.specs.Check.{Hold}
 use Rattle.rules.specs.States.{closing}
@@ -30,15 +31,6 @@ use Rattle.volume.specs.Volume.{VolumeMoment, VolumeRadial, Volume, Head
 use Rattle.volume.specs.Accepted.{Begun, Accepted, nothing, generic, site, task, radials, radial, moment, volume, volumeOf, bytesOfAccepted, radialsIn, dueRadial, dueMoment, UnclosedOk, BegunOk, RadialBegun, AcceptedOk}
 
 -- ---- one more at the end
-
-run-append : {A : Type 0} (enc : A → List ℕ) (a b : List A) → run enc (a ++ b) ≡ run enc a ++ run enc b
-unfolding run
-run-append enc [] b = refl
-run-append enc (x ∷ xs) b = ap (λ (l : List ℕ). enc x ++ l) (run-append enc xs b) ∙ sym (append-assoc (enc x) (run enc xs) (run enc b))
-
-pub run-end : {A : Type 0} (enc : A → List ℕ) (a : List A) (x : A) → run enc (a ++ (x ∷ [])) ≡ run enc a ++ enc x
-unfolding run
-run-end enc a x = run-append enc a (x ∷ []) ∙ ap (λ (l : List ℕ). run enc a ++ l) (append-nil (enc x))
 
 cuts-end : (cs : List Cut) (c : Cut) → CutsOk cs → CutFits c → Hold (cutRules c) → CutsOk (cs ++ (c ∷ []))
 cuts-end [] c ok fits rules = (fits, rules, tt)

@@ -29,7 +29,8 @@ use Rattle.volume.specs.Volume.{VolumeRadial, bytesOfRadial, LayersOk, C
 use Rattle.volume.specs.Accepted.{radialsIn}
 use Rattle.volume.specs.Meaning.{layerStretches, endOf, layersStretches}
 use Rattle.volume.proofs.Runs.{Finishes, before-block}
-use Rattle.volume.proofs.Takes.{walkAt, planOf, radialWalk, closedWalk, cutWalk, holding, settles-cut}
+use Rattle.reading.proofs.Exactly.{holding, settles-cut}
+use Rattle.volume.proofs.Takes.{walkAt, planOf, radialWalk, closedWalk, cutWalk}
 use Rattle.volume.proofs.Forth.{layer, layer-then}
 
 -- ---- the cuts, where they stand

@@ -25,7 +25,7 @@ use Rattle.cut.proofs.Trips as cut-trip
 use Rattle.reading.specs.Reading.{stop}
 use Rattle.volume.specs.Volume.{VolumeRadial, Volume, IsVolume, bytesOfRadial, bytesOfVolume, GenericOk, SiteOk, TaskOk, CutsOk, LayersOk}
 use Rattle.volume.specs.Accepted.{Begun, Accepted, nothing, generic, site, task, radials, radial, moment, volume, volumeOf, bytesOfAccepted, radialsIn, UnclosedOk, BegunOk, RadialBegun, AcceptedOk, Says}
-use Rattle.volume.proofs.Grow.{run-end}
+use Rattle.le.proofs.Laws.{run-end}
 use Rattle.volume.proofs.Tells.{tells}
 use Rattle.volume.proofs.Same.{same-cuts, same-layers}
 use Rattle.volume.proofs.SameBegun.{Tail, none, begun, headed, tailBytes, Fewer, TailOk, Layered, layers-same, over-not-begun}

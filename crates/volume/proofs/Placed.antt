@@ -9,7 +9,7 @@ use borrow.Author.Tests.{eq-eqb, ne-eqb}
 use Rattle.le.specs.Le.{run, part, Bytes}
 use Rattle.le.proofs.Here.{At, here}
 use Rattle.le.proofs.Coded.{Coded, stands}
-use Rattle.le.proofs.Laws.{part-take}
+use Rattle.le.proofs.Laws.{part-take, run-end}
 use Rattle.rules.specs.Check.{Hold}
 use Rattle.rules.proofs.Judged.{fine-if}
 use Rattle.cut.specs.declared.Cut.{Cut}
@@ -38,7 +38,6 @@ use Rattle.volume.specs.Accepted.{Begun, BegunOk, Accepted, AcceptedOk, 
 use Rattle.volume.specs.Meaning.{layerStretches, layersStretches, volumeStretches, acceptedStretches, endOf, firstPlace, Accepts}
 use Rattle.volume.specs.InPlace.{taskIn, cutNumber, ofCut, InPlace, AllInPlace}
 use Rattle.volume.proofs.Accepts.{accepts}
-use Rattle.volume.proofs.Grow.{run-end}
 use Rattle.volume.proofs.Layers.{endsAt, stretches-end}
 use Rattle.volume.proofs.Tells.{same-number}
 
@@ -139,10 +138,12 @@ module _ (f : List ℕ) where
       let e = at + length (bytesOfRadial b) in
       let s : Stretch = record { start = at; end = e; cut = k } in
       let x = placed k at b (run bytesOfRadial bs ++ g) before (ok .0) (subst (At f at) (append-assoc (bytesOfRadial b) (run bytesOfRadial bs) g) a) in
-      let own : ofCut k (s ∷ before) ≡ suc (ofCut k before) = rw (eq-eqb k k refl) (omega arith) in
-      (x .0, layer bs k e g (s ∷ before) ss (subst (λ (n : ℕ). Each k (suc (length before)) n bs) (sym own) (ok .1)) (x .1)
-      (λ j h. let z = later j h in rw (ne-eqb k j (λ q. omega arith)) (omega arith))
-      (λ more n h i. next more (omega arith) h i))
+      let own : ofCut k (s ∷ before) ≡ suc (ofCut k before) = rw (eq-eqb k k refl) (omega arith) in (
+        x .0,
+        layer bs k e g (s ∷ before) ss (subst (λ (n : ℕ). Each k (suc (length before)) n bs) (sym own) (ok .1)) (x .1)
+            (λ j h. let z = later j h in rw (ne-eqb k j (λ q. omega arith)) (omega arith))
+            (λ more n h i. next more (omega arith) h i),
+      )
 
   -- the cuts from number k on, as they stand in the file
   abbrev CutsIn : ℕ → List Cut → Type 0

@@ -8,7 +8,9 @@ use lib.Ieee.{le, ofInt, ofBits}
 use lib.ListN.{length}
 use Rattle.le.specs.Le.{bytes, part, run}
 use Rattle.le.proofs.Laws.{length-part}
-use Rattle.rules.specs.Check.{Hold}
+use Rattle.rules.specs.Check.{Hold, also, verdict}
+use Rattle.rules.specs.declared.check.Check.the-variants.{Fine}
+use Rattle.rules.proofs.Judged.{all-hold}
 use Rattle.rules.specs.Ranges.{among, within, notBelowZero, counts, countsInCut, between, angle}
 use Rattle.rules.specs.States.{rhi, mostCuts, cutNumberOk, opening, closing, stateOk}
 use Rattle.rules.specs.Masks.{bit, withBit, typeOk, binLengthOk}
@@ -22,10 +24,10 @@ use Rattle.task.specs.Task.{taskBytes, taskRules, TaskFits}
 use Rattle.cut.specs.declared.Cut.{Cut}
 use Rattle.cut.specs.Cut.{cutBytes, cutRules, CutFits}
 use Rattle.radial.specs.declared.Radial.{Radial}
-use Rattle.radial.specs.Radial.{radialBytes, RadialFits}
+use Rattle.radial.specs.Radial.{radialBytes, radialRules, RadialFits}
 use Rattle.moment.specs.declared.Moment.{Moment}
-use Rattle.moment.specs.Moment.{momentBytes, MomentFits}
-use Rattle.volume.specs.Volume.{VolumeRadial, Volume, IsVolume, RadialOk, bytesOfVolume}
+use Rattle.moment.specs.Moment.{momentBytes, momentRules, MomentFits}
+use Rattle.volume.specs.Volume.{VolumeRadial, Volume, IsVolume, RadialOk, judged, judgedRadial, bytesOfVolume}
 use Rattle.volume.proofs.Meaning.{reads}
 use Rattle.reading.specs.Reading.{told, stretches}
 
@@ -103,84 +105,55 @@ radial-fits : (state n i k : ℕ) → state < 256 ^ 4 → n < 256 ^ 4 → i < 25
 unfolding small-radial
 radial-fits state n i k hs hn hi hk = record { state = hs; «spot_blank» = lit< tt; sequence = hn; «radial_number» = hi; «elevation_number» = hk; azimuth = lit< tt; elevation = lit< tt; seconds = lit< tt; microseconds = lit< tt; «length_of_data» = lit< tt; «moment_number» = lit< tt; reserved = length-part 20 [] 0 }
 
-generic-rules : Hold (genericRules small-generic)
-unfolding small-generic among
-generic-rules = (refl, (refl, tt))
-
-site-rules : Hold (siteRules small-site)
-unfolding small-site angle between le ofInt ofBits
-site-rules = (refl, (refl, tt))
-
-task-rules : Hold (taskRules (small-task 1))
-unfolding small-task among notBelowZero cutNumberOk mostCuts rhi
-task-rules = (refl, (refl, (refl, (refl, tt))))
-
-task-rules-two : Hold (taskRules (small-task 2))
-unfolding small-task among notBelowZero cutNumberOk mostCuts rhi
-task-rules-two = (refl, (refl, (refl, (refl, tt))))
+-- the blocks before the radials keep their rules
+head : Hold (genericRules small-generic) × Hold (siteRules small-site) × Hold (taskRules (small-task 1)) × Hold (taskRules (small-task 2))
+unfolding small-generic small-site small-task among angle between le ofInt ofBits notBelowZero cutNumberOk mostCuts rhi also
+head = (
+  all-hold (genericRules small-generic) refl,
+  all-hold (siteRules small-site) refl,
+  all-hold (taskRules (small-task 1)) refl,
+  all-hold (taskRules (small-task 2)) refl,
+)
 
 cut-rules : (mask : ℕ) → Hold (cutRules (small-cut mask))
-unfolding small-cut among
-cut-rules mask = (refl, (refl, (refl, (refl, (refl, (refl, tt))))))
+unfolding small-cut among also
+cut-rules mask = all-hold (cutRules (small-cut mask)) refl
 
-first : RadialOk (small-task 1) (small-cut 2) 1 0 0 (small-whole 3 1 1 1 2)
-unfolding small-task small-cut small-whole small-radial small-moment among notBelowZero counts countsInCut angle between le ofInt ofBits stateOk opening closing rhi momentNumberOk typeOk bit within withBit binLengthOk lengthOk tiles
-first =
+-- a radial of these numbers is one of its cut where its header and its moment keep their rules
+radial-ok : (cuts mask k before inCut state n i type : ℕ) → RadialFits (small-radial state n i k) → MomentFits (small-moment type)
+    → verdict (radialRules (small-radial state n i k) (judgedRadial (small-task cuts) k before inCut)) ≡ Fine
+    → verdict (momentRules (small-moment type) (judged (small-cut mask) (small-radial state n i k) [])) ≡ Fine
+    → RadialOk (small-task cuts) (small-cut mask) k before inCut (small-whole state n i k type)
+unfolding small-whole small-radial small-moment
+radial-ok cuts mask k before inCut state n i type fits fit r m =
+    let against = judgedRadial (small-task cuts) k before inCut in
+    let due = judged (small-cut mask) (small-radial state n i k) [] in
     record {
-      fits = radial-fits 3 1 1 1 (lit< tt) (lit< tt) (lit< tt) (lit< tt);
-      rules = (refl, (refl, (refl, (refl, (refl, (refl, (refl, (refl, (refl, (refl, (refl, tt)))))))))));
+      fits = fits;
+      rules = all-hold (radialRules (small-radial state n i k) against) r;
       count = refl;
-      moments = (moment-fits 2 (lit< tt), (refl, (refl, (refl, (refl, (refl, tt))))), refl, tt);
+      moments = (fit, all-hold (momentRules (small-moment type) due) m, refl, tt);
     }
 
-second : RadialOk (small-task 1) (small-cut 2) 1 1 1 (small-whole 4 2 2 1 2)
-unfolding small-task small-cut small-whole small-radial small-moment among notBelowZero counts countsInCut angle between le ofInt ofBits stateOk opening closing rhi momentNumberOk typeOk bit within withBit binLengthOk lengthOk tiles
-second =
-    record {
-      fits = radial-fits 4 2 2 1 (lit< tt) (lit< tt) (lit< tt) (lit< tt);
-      rules = (refl, (refl, (refl, (refl, (refl, (refl, (refl, (refl, (refl, (refl, (refl, tt)))))))))));
-      count = refl;
-      moments = (moment-fits 2 (lit< tt), (refl, (refl, (refl, (refl, (refl, tt))))), refl, tt);
-    }
+-- the two radials of the small volume, and the four of the other
+pub record Radials : Type 0 where
+  pub first : RadialOk (small-task 1) (small-cut 2) 1 0 0 (small-whole 3 1 1 1 2)
+  pub second : RadialOk (small-task 1) (small-cut 2) 1 1 1 (small-whole 4 2 2 1 2)
+  pub opens : RadialOk (small-task 2) (small-cut 2) 1 0 0 (small-whole 3 1 1 1 2)
+  pub closes : RadialOk (small-task 2) (small-cut 2) 1 1 1 (small-whole 2 2 2 1 2)
+  pub opens-next : RadialOk (small-task 2) (small-cut 1) 2 2 0 (small-whole 0 3 1 2 1)
+  pub closes-last : RadialOk (small-task 2) (small-cut 1) 2 3 1 (small-whole 4 4 2 2 1)
 
-one : RadialOk (small-task 2) (small-cut 2) 1 0 0 (small-whole 3 1 1 1 2)
-unfolding small-task small-cut small-whole small-radial small-moment among notBelowZero counts countsInCut angle between le ofInt ofBits stateOk opening closing rhi momentNumberOk typeOk bit within withBit binLengthOk lengthOk tiles
-one =
+pub small-radials-ok : Radials
+unfolding small-task small-cut small-radial small-moment also among notBelowZero counts countsInCut angle between le ofInt ofBits stateOk opening closing rhi momentNumberOk typeOk bit within withBit binLengthOk lengthOk tiles
+small-radials-ok =
     record {
-      fits = radial-fits 3 1 1 1 (lit< tt) (lit< tt) (lit< tt) (lit< tt);
-      rules = (refl, (refl, (refl, (refl, (refl, (refl, (refl, (refl, (refl, (refl, (refl, tt)))))))))));
-      count = refl;
-      moments = (moment-fits 2 (lit< tt), (refl, (refl, (refl, (refl, (refl, tt))))), refl, tt);
-    }
-
-one-closes : RadialOk (small-task 2) (small-cut 2) 1 1 1 (small-whole 2 2 2 1 2)
-unfolding small-task small-cut small-whole small-radial small-moment among notBelowZero counts countsInCut angle between le ofInt ofBits stateOk opening closing rhi momentNumberOk typeOk bit within withBit binLengthOk lengthOk tiles
-one-closes =
-    record {
-      fits = radial-fits 2 2 2 1 (lit< tt) (lit< tt) (lit< tt) (lit< tt);
-      rules = (refl, (refl, (refl, (refl, (refl, (refl, (refl, (refl, (refl, (refl, (refl, tt)))))))))));
-      count = refl;
-      moments = (moment-fits 2 (lit< tt), (refl, (refl, (refl, (refl, (refl, tt))))), refl, tt);
-    }
-
-other : RadialOk (small-task 2) (small-cut 1) 2 2 0 (small-whole 0 3 1 2 1)
-unfolding small-task small-cut small-whole small-radial small-moment among notBelowZero counts countsInCut angle between le ofInt ofBits stateOk opening closing rhi momentNumberOk typeOk bit within withBit binLengthOk lengthOk tiles
-other =
-    record {
-      fits = radial-fits 0 3 1 2 (lit< tt) (lit< tt) (lit< tt) (lit< tt);
-      rules = (refl, (refl, (refl, (refl, (refl, (refl, (refl, (refl, (refl, (refl, (refl, tt)))))))))));
-      count = refl;
-      moments = (moment-fits 1 (lit< tt), (refl, (refl, (refl, (refl, (refl, tt))))), refl, tt);
-    }
-
-other-closes : RadialOk (small-task 2) (small-cut 1) 2 3 1 (small-whole 4 4 2 2 1)
-unfolding small-task small-cut small-whole small-radial small-moment among notBelowZero counts countsInCut angle between le ofInt ofBits stateOk opening closing rhi momentNumberOk typeOk bit within withBit binLengthOk lengthOk tiles
-other-closes =
-    record {
-      fits = radial-fits 4 4 2 2 (lit< tt) (lit< tt) (lit< tt) (lit< tt);
-      rules = (refl, (refl, (refl, (refl, (refl, (refl, (refl, (refl, (refl, (refl, (refl, tt)))))))))));
-      count = refl;
-      moments = (moment-fits 1 (lit< tt), (refl, (refl, (refl, (refl, (refl, tt))))), refl, tt);
+      first = radial-ok 1 2 1 0 0 3 1 1 2 (radial-fits 3 1 1 1 (lit< tt) (lit< tt) (lit< tt) (lit< tt)) (moment-fits 2 (lit< tt)) refl refl;
+      second = radial-ok 1 2 1 1 1 4 2 2 2 (radial-fits 4 2 2 1 (lit< tt) (lit< tt) (lit< tt) (lit< tt)) (moment-fits 2 (lit< tt)) refl refl;
+      opens = radial-ok 2 2 1 0 0 3 1 1 2 (radial-fits 3 1 1 1 (lit< tt) (lit< tt) (lit< tt) (lit< tt)) (moment-fits 2 (lit< tt)) refl refl;
+      closes = radial-ok 2 2 1 1 1 2 2 2 2 (radial-fits 2 2 2 1 (lit< tt) (lit< tt) (lit< tt) (lit< tt)) (moment-fits 2 (lit< tt)) refl refl;
+      opens-next = radial-ok 2 1 2 2 0 0 3 1 1 (radial-fits 0 3 1 2 (lit< tt) (lit< tt) (lit< tt) (lit< tt)) (moment-fits 1 (lit< tt)) refl refl;
+      closes-last = radial-ok 2 1 2 3 1 4 4 2 1 (radial-fits 4 4 2 2 (lit< tt) (lit< tt) (lit< tt) (lit< tt)) (moment-fits 1 (lit< tt)) refl refl;
     }
 
 pub small-is : IsVolume small
@@ -189,13 +162,13 @@ small-is =
     record {
       headed =
           record {
-            generic = (generic-fits, generic-rules);
-            site = (site-fits, site-rules);
-            task = (task-fits 1 (lit< tt), task-rules);
+            generic = (generic-fits, head .0);
+            site = (site-fits, head .1);
+            task = (task-fits 1 (lit< tt), head .2);
             number = refl;
             cuts = (cut-fits 2 (lit< tt), cut-rules 2, tt);
           };
-      layers = ((first, (λ e. omega arith), (second, refl)), tt);
+      layers = ((small-radials-ok .first, (λ e. omega arith), (small-radials-ok .second, refl)), tt);
     }
 
 pub two-is : IsVolume two
@@ -204,13 +177,13 @@ two-is =
     record {
       headed =
           record {
-            generic = (generic-fits, generic-rules);
-            site = (site-fits, site-rules);
-            task = (task-fits 2 (lit< tt), task-rules-two);
+            generic = (generic-fits, head .0);
+            site = (site-fits, head .1);
+            task = (task-fits 2 (lit< tt), head .3);
             number = refl;
             cuts = (cut-fits 2 (lit< tt), cut-rules 2, (cut-fits 1 (lit< tt), cut-rules 1, tt));
           };
-      layers = ((one, (λ e. omega arith), (one-closes, refl)), ((other, (λ e. omega arith), (other-closes, refl)), tt));
+      layers = ((small-radials-ok .opens, (λ e. omega arith), (small-radials-ok .closes, refl)), ((small-radials-ok .opens-next, (λ e. omega arith), (small-radials-ok .closes-last, refl)), tt));
     }
 
 -- so it is complete, and has its two radials where document 01 lists them

@@ -82,39 +82,3 @@ nowhere = record { start = 0; state = 0; sequence = 0; mask = 0; sizes = 0 }
 
 abbrev pub cutWalk : Task → ℕ → ℕ → ℕ → Walk
 cutWalk t j at todo = walkAt due.Cut (planOf t) (record { cut = j; whole = 0; «in_cut» = 0 }) nowhere at (record { todo = todo; left = 0; seen = 0; length = 0 })
-
--- ---- each kind of block, settled by its rules
-
-pub holding : (rs : List Rule) (at : ℕ) (n : Walk) → Hold rs → settle (verdict rs) at n ≡ Took n
-unfolding settle
-holding rs at n k = rw (fine-if rs k)
-
-pub breaking : (rs : List Rule) (at : ℕ) (w : Walk) (n p : ℕ) → First rs n p → settle (verdict rs) at w ≡ Refused n (at + p)
-unfolding settle
-breaking rs at w n p k = rw (first-decides k)
-
-module _ (p : List ℕ) (w : Walk) where
-  pub settles-generic : (r : Generic) → genericOf (part 32 p (w .at)) ≡ r → blockAt due.Generic p w ≡ settle (verdict (genericRules r)) (w .at) (afterGeneric w (w .at + 32))
-  unfolding blockAt takeGeneric genericCheck genericAt
-  settles-generic r e = ap (λ (x : Generic). takeGeneric x w) e
-
-  pub settles-site : (r : Site) → siteOf (part 128 p (w .at)) ≡ r → blockAt due.Site p w ≡ settle (verdict (siteRules r)) (w .at) (afterSite w (w .at + 128))
-  unfolding blockAt takeSite siteCheck siteAt
-  settles-site r e = ap (λ (x : Site). takeSite x w) e
-
-  pub settles-task : (r : Task) → taskOf (part 256 p (w .at)) ≡ r → blockAt due.Task p w ≡ settle (verdict (taskRules r)) (w .at) (afterTask (r .«scan_type») (r .«cut_number») w (w .at + 256))
-  unfolding blockAt takeTask taskCheck taskAt
-  settles-task r e = ap (λ (x : Task). takeTask x w) e
-
-  pub settles-cut : (r : Cut) → cutOf (part 256 p (w .at)) ≡ r → blockAt due.Cut p w ≡ settle (verdict (cutRules r)) (w .at) (afterCut w (w .at + 256))
-  unfolding blockAt takeCut cutCheck cutAt
-  settles-cut r e = ap (λ (x : Cut). takeCut x w) e
-
-  pub settles-radial : (r : Radial) (c : Cut) → radialOf (part 64 p (w .at)) ≡ r → cutIn p w ≡ c
-      → blockAt due.Radial p w ≡ settle (verdict (radialRules r (radialDue w))) (w .at) (afterRadial r (c .«moments_mask») (c .«size_mask») w (w .at + 64))
-  unfolding blockAt takeRadial radialCheck radialAt
-  settles-radial r c e d = ap₂ (λ (x : Radial) (y : Cut). takeRadial x y w) e d
-
-  pub settles-moment : (r : Moment) → momentOf (part 32 p (w .at)) ≡ r → blockAt due.Moment p w ≡ settle (verdict (momentRules r (momentDue w))) (w .at) (afterMoment r w (w .at + 32))
-  unfolding blockAt takeMoment momentCheck momentAt
-  settles-moment r e = ap (λ (x : Moment). takeMoment x w) e

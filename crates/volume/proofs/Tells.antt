@@ -37,11 +37,12 @@ use Rattle.volume.specs.Volume.{VolumeRadial, GenericOk, SiteOk, TaskOk,
 use Rattle.volume.specs.Accepted.{Begun, Accepted, nothing, generic, site, task, radials, radial, moment, volume, volumeOf, bytesOfAccepted, radialsIn, dueRadial, dueMoment, BegunOk, RadialBegun, AcceptedOk, Says}
 use Rattle.volume.specs.Meaning.{endOf, layerStretches, layersStretches, firstPlace, volumeStretches, acceptedStretches, Told}
 use Rattle.volume.proofs.Runs.{Finishes, Ends, before-block}
-use Rattle.volume.proofs.Takes.{radialWalk, momentWalk, restOf, cutWalk, nowhere, holding, breaking, settles-generic, settles-site, settles-task, settles-cut, settles-radial, settles-moment}
+use Rattle.reading.proofs.Exactly.{holding, breaking, settles-generic, settles-site, settles-task, settles-cut, settles-radial, settles-moment}
+use Rattle.volume.proofs.Takes.{radialWalk, momentWalk, restOf, cutWalk, nowhere}
 use Rattle.volume.proofs.Forth.{Known, header-on, moments-begun, radial-header, unclosed}
 use Rattle.volume.proofs.Layers.{CutsAt, cuts-at, cut-behind, endsAt, end-after, ends-after, stretches-end, layers-on, layers-whole, cuts-on}
 use Rattle.volume.proofs.Stops.{none-first, front, stop-before, stop-behind}
-use Rattle.volume.proofs.Grow.{run-end}
+use Rattle.le.proofs.Laws.{run-end}
 
 -- ---- the blocks before the radials
 
