@@ -2,3 +2,4 @@ pub mod Growing
 pub mod Grown
 pub mod Sounding
 pub mod Tallying
+pub mod Tellings

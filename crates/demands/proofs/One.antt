@@ -15,7 +15,7 @@ use Rattle.gates.specs.declared.RowAnswer.the-variants as row
 use Rattle.gates.specs.Codes.{codesOf}
 use Rattle.gates.specs.Rows.{rooms, Rowed}
 use Rattle.gates.proofs.Rows.{row-one}
-use Rattle.gates.proofs.Tellings.{told-gate-one}
+use Rattle.gates.proofs.Tellings.{told-gate-one, told-row-one}
 use Rattle.moment.specs.Moment.{momentAt}
 use Rattle.moments.specs.Moments.{dataAt}
 use Rattle.walk.specs.declared.due.Walk.{Walk}
@@ -221,6 +221,13 @@ reading-one f a b x y =
       radials = (x .radials ∙ sym (y .radials)) i;
     }
 
+asked-one : (f : List ℕ) (at : Where) (k : List ℕ) (h : List ℤ) (a b : RowAnswer) (k₁ k₂ : List ℕ) (h₁ h₂ : List ℤ) → RowTold f at k h a k₁ h₁ → RowTold f at k h b k₂ h₂
+    → (a ≡ b) × (k₁ ≡ k₂) × (h₁ ≡ h₂)
+unfolding RowTold
+asked-one f NoRadial k h a b k₁ k₂ h₁ h₂ x y = (told-row-one a b (x .answer ∙ sym (y .answer)), x .kinds ∙ sym (y .kinds), x .hundredths ∙ sym (y .hundredths))
+asked-one f NoMoment k h a b k₁ k₂ h₁ h₂ x y = (told-row-one a b (x .answer ∙ sym (y .answer)), x .kinds ∙ sym (y .kinds), x .hundredths ∙ sym (y .hundredths))
+asked-one f (At s p) k h a b k₁ k₂ h₁ h₂ x y = row-one x y
+
 determined : Determined
 determined =
     record {
@@ -228,6 +235,7 @@ determined =
       reading = reading-one;
       gate = told-gate-one;
       row = λ c codes k h a b k₁ k₂ h₁ h₂ x y. row-one x y;
+      asked = asked-one;
       index = λ f before a b x y p q. (told-once a b (p .answer ∙ sym (q .answer)), p .room ∙ sym (q .room));
       put = puts-same;
     }

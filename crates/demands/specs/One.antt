@@ -114,6 +114,8 @@ pub record Determined : Type 0 where
   pub gate : (a b : Gate) → toldGate a ≡ toldGate b → a ≡ b
   pub row : (c : Coding) (codes k : List ℕ) (h : List ℤ) (a b : RowAnswer) (k₁ k₂ : List ℕ) (h₁ h₂ : List ℤ) → Rowed c codes k h a k₁ h₁ → Rowed c codes k h b k₂ h₂
       → (a ≡ b) × (k₁ ≡ k₂) × (h₁ ≡ h₂)
+  pub asked : (f : List ℕ) (at : Where) (k : List ℕ) (h : List ℤ) (a b : RowAnswer) (k₁ k₂ : List ℕ) (h₁ h₂ : List ℤ) → RowTold f at k h a k₁ h₁ → RowTold f at k h b k₂ h₂
+      → (a ≡ b) × (k₁ ≡ k₂) × (h₁ ≡ h₂)
   pub index : (f before : List ℕ) (a b : Answer) (x y : List ℕ) → Writes f before a x → Writes f before b y → (a ≡ b) × (x ≡ y)
   pub put : (o : Outcome) (p q : Put) (held other : List ℕ) → Puts o p held → Puts o q other → (p ≡ q) × (held ≡ other)
 
