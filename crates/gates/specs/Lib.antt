@@ -1,5 +1,6 @@
 pub mod Gates
 pub mod Nearest
+pub mod Exact
 pub mod Codes
 pub mod Telling
 pub mod Rows

@@ -6,3 +6,4 @@ pub mod Known
 pub mod Masks
 pub mod Radials
 pub mod Run
+pub mod Sequences
