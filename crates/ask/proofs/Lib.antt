@@ -1,3 +1,4 @@
+pub mod Asked
 pub mod Growing
 pub mod Grown
 pub mod Sounding
