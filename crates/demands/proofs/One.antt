@@ -128,10 +128,10 @@ put-no : (b : Block) (w : Walk) (room : List ℕ) → agrees w room ≡ false �
 unfolding put
 put-no b w room a = rw a
 
-answered : (a : writer.Answer) (says : Step) (bs : List ℕ) (w : Walk) (room : List ℕ) → outcome a says bs w room .answer ≡ a
+outcome-is : (a : writer.Answer) (says : Step) (bs : List ℕ) (w : Walk) (room : List ℕ) → outcome a says bs w room .answer ≡ a
 unfolding outcome
-answered Taken says bs w room = refl
-answered (Refused n p) says bs w room = refl
+outcome-is Taken says bs w room = refl
+outcome-is (Refused n p) says bs w room = refl
 
 -- where state and room agree, the order that is left
 answer-is : (b : Block) (w : Walk) (room : List ℕ) → agrees w room ≡ true
@@ -139,7 +139,7 @@ answer-is : (b : Block) (w : Walk) (room : List ℕ) → agrees w room ≡ true
 unfolding putOn answerTo
 answer-is b w room a =
     ap (λ (o : Outcome). o .answer) (put-yes b w room a)
-    ∙ answered (answerTo (kindOf b) (saysOf b room w) (fitsOf b w) (lengthOf b) w (length room)) (saysOf b room w) (blockBytes b) w room
+    ∙ outcome-is (answerTo (kindOf b) (saysOf b room w) (fitsOf b w) (lengthOf b) w (length room)) (saysOf b room w) (blockBytes b) w room
     ∙ rw (le-ltb (length room) (w .at) (tests-agreement w room .yes a .within))
 
 writer-refuses : (b : Block) (w : Walk) (room : List ℕ) → WriterRefuses b w room
