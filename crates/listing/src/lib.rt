@@ -3,7 +3,8 @@
 ghost use mathlib.Core.Path.{_≡_};
 ghost use Prim.Native.Nat.{_+_, _<_, _^_};
 ghost use Rattle.moment.specs.Moment.{momentSize};
-ghost use Rattle.listing.specs.Listing.{radialLine, gatesIn, momentLine, atBegin, radialNext, lineOf};
+ghost use Rattle.gates.specs.Codes.{gatesIn};
+ghost use Rattle.listing.specs.Listing.{radialLine, momentLine, atBegin, radialNext, lineOf};
 use moment::Moment;
 use moments::Ahead;
 use moments::Place;
