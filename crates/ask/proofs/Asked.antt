@@ -14,10 +14,8 @@ use Rattle.reading.specs.declared.Stretch.{Stretch}
 use Rattle.reading.specs.Reading.{stretches, nth, bytesOf}
 use Rattle.reading.proofs.Sequences.{nth-sequence}
 use Rattle.ask.specs.declared.answers.RadialAnswer.{RadialAnswer}
-use Rattle.ask.specs.declared.places.Where.the-variants.{At}
 use Rattle.ask.specs.Answers.{radialTold, radialOfFile}
 use Rattle.ask.specs.Asked.{AsAsked}
-use Rattle.ask.specs.Places.{whereIs}
 use Rattle.ask.proofs.Sounding.{stands}
 
 -- a search finds a moment of the type that it seeks

@@ -6,8 +6,6 @@ use native.Mathlib.Omega.{arith}
 use Prim.Native.Nat.{ℕ}
 use lib.IntN.{ℤ}
 use Rattle.gates.specs.declared.RowAnswer.{RowAnswer}
-use Rattle.gates.specs.declared.Told.{Told}
-use Rattle.gates.specs.Gates.{Values, valuesOf}
 use Rattle.gates.specs.Telling.{Telling, refused, answered}
 use Rattle.gates.proofs.Rows.{row-one}
 use Rattle.gates.proofs.Tellings.{values-one, told-row-one}

@@ -69,5 +69,6 @@ pub record Values : Type 0 where
   pub scale : ℕ
   pub hundredths : ℤ
 
+-- what is told of a gate, by its values
 abbrev pub valuesOf : Told → Values
 valuesOf t = record { gate = toldGate (t .gate); difference = t .difference; scale = t .scale; hundredths = t .hundredths }
