@@ -16,7 +16,7 @@ use Rattle.gates.specs.Codes.{codesOf}
 use Rattle.gates.specs.Rows.{rooms, Rowed}
 use Rattle.gates.specs.Telling.{refused, answered}
 use Rattle.gates.proofs.Rows.{row-one}
-use Rattle.gates.proofs.Tellings.{told-gate-one}
+use Rattle.gates.proofs.Tellings.{told-gate-one, values-one}
 use Rattle.moment.specs.Moment.{momentAt}
 use Rattle.moments.specs.Moments.{dataAt}
 use Rattle.walk.specs.declared.due.Walk.{Walk}
@@ -246,6 +246,7 @@ determined =
       verdict = verdict-one;
       reading = reading-one;
       gate = told-gate-one;
+      gate-told = values-one;
       gate-asked = told-gate-answer-one;
       tally = told-tally-one;
       row = λ c codes k h a b k₁ k₂ h₁ h₂ x y. row-one x y;

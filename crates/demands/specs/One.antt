@@ -13,8 +13,9 @@ use Rattle.gates.specs.declared.Coding.{Coding}
 use Rattle.gates.specs.declared.Gate.{Gate}
 use Rattle.gates.specs.declared.RowAnswer.{RowAnswer}
 use Rattle.gates.specs.declared.RowAnswer.the-variants as row
+use Rattle.gates.specs.declared.Told.{Told}
 use Rattle.gates.specs.Codes.{codesOf}
-use Rattle.gates.specs.Gates.{toldGate}
+use Rattle.gates.specs.Gates.{toldGate, valuesOf}
 use Rattle.gates.specs.Rows.{toldRow, rooms, Rowed}
 use Rattle.gates.specs.Telling.{refused}
 use Rattle.moment.specs.Moment.{momentAt}
@@ -111,12 +112,13 @@ pub record Unchanged : Type 0 where
   pub index : (f before after : List ℕ) (n : ℕ) → Writes f before (index.Refused n) after → after ≡ before
   pub block : (n : ℕ) (room : List ℕ) (at : ℕ) (bs : List ℕ) → length room < at + n → stored n room at bs ≡ room
 
--- two results that keep one promise are the same: those of reading, of a gate and of its answer, of a row with its buffers,
--- of codes and of a file, of a tally, of an index and of a put with its room; every other promise is an equation
+-- two results that keep one promise are the same: those of reading, of a gate, of what is told of it and of its answer, of
+-- a row with its buffers, of codes and of a file, of a tally, of an index and of a put with its room; every other promise is an equation
 pub record Determined : Type 0 where
   pub verdict : (a b : Verdict) → verdictTold a ≡ verdictTold b → a ≡ b
   pub reading : (f : List ℕ) (a b : Reading) → Tells f a → Tells f b → a ≡ b
   pub gate : (a b : Gate) → toldGate a ≡ toldGate b → a ≡ b
+  pub gate-told : (a b : Told) → valuesOf a ≡ valuesOf b → a ≡ b
   pub gate-asked : (a b : GateAnswer) → toldGateAnswer a ≡ toldGateAnswer b → a ≡ b
   pub tally : (a b : TallyAnswer) → toldTally a ≡ toldTally b → a ≡ b
   pub row : (c : Coding) (codes k : List ℕ) (h : List ℤ) (a b : RowAnswer) (k₁ k₂ : List ℕ) (h₁ h₂ : List ℤ) → Rowed c codes k h a k₁ h₁ → Rowed c codes k h b k₂ h₂
