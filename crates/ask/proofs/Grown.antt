@@ -4,10 +4,13 @@ use native.Mathlib.Omega.{arith}
 use mathlib.Core.Bool.{Bool, true, false, cond}
 use mathlib.Core.List.{List, _++_}
 use mathlib.Core.Logic.{_⊎_, inl, inr}
-use mathlib.Core.Path.{_≡_, refl, sym, ap, _∙_}
+use mathlib.Core.Path.{_≡_, refl, sym, ap, transport, _∙_}
 use borrow.Author.Tests.{eqb-false, ne-eqb}
 use lib.Dec.{eqb}
+use lib.IntN.{ℤ}
 use lib.ListN.{length}
+use Rattle.gates.specs.declared.RowAnswer.{RowAnswer}
+use Rattle.gates.specs.Telling.{refused, answered}
 use Rattle.le.proofs.Laws.{part-in}
 use Rattle.radial.specs.Radial.{radialOf, radialAt}
 use Rattle.moments.specs.declared.Found as moment
@@ -18,13 +21,11 @@ use Rattle.reading.specs.declared.Stretch.{Stretch}
 use Rattle.reading.specs.Growth.{Same, Grows}
 use Rattle.reading.specs.Reading.{stretches, nth, bytesOf}
 use Rattle.reading.proofs.Grown.{grows}
-use Rattle.ask.specs.declared.answers.GateAnswer.the-variants as gate
 use Rattle.ask.specs.declared.places.Where.{Where}
 use Rattle.ask.specs.declared.places.Where.the-variants.{At}
 use Rattle.ask.specs.declared.tallies.Tally.{Tally}
-use Rattle.ask.specs.declared.tallies.TallyAnswer.the-variants.{Counted, Refused}
-use Rattle.ask.specs.Answers.{radialTold, momentTold, dataTold, gateTold}
-use Rattle.ask.specs.Growth.{gateAsked, Kept, AnswersGrow}
+use Rattle.ask.specs.Answers.{radialTold, momentTold, dataTold, gateTold, RowTold}
+use Rattle.ask.specs.Growth.{gateAsked, rowAsked, Kept, AnswersGrow}
 use Rattle.ask.specs.Places.{inStretch, inFound, whereIs}
 use Rattle.ask.specs.Tallies.{added, tallyOver, tallyOf, tallyTold}
 use Rattle.ask.proofs.Growing.{nth-kept, nth-of, nth-placed, tally-same, accepted-kept, no-fewer}
@@ -75,6 +76,17 @@ module _ (A C : List ℕ) (some : 0 < length C) where
     gate-same (moment.the-variants.At p) i = rw same
     gate-same moment.the-variants.Nowhere i = refl
 
+    row-same : (v : moment.Found) (k k′ : List ℕ) (h h′ : List ℤ) (r : RowAnswer) → RowTold (A ++ C) (inStretch s v) k h r k′ h′ ≡ RowTold A (inStretch s v) k h r k′ h′
+    unfolding inStretch RowTold
+    row-same (moment.the-variants.At p) k k′ h h′ r = rw same
+    row-same moment.the-variants.Nowhere k k′ h h′ r = refl
+
+    row-kept : (t : ℕ) (k k′ : List ℕ) (h h′ : List ℤ) (r : RowAnswer) → rowAsked (A ++ C) n t k h r k′ h′ ≡ rowAsked A n t k h r k′ h′
+    row-kept t k k′ h h′ r =
+        ap (λ (w : Where). RowTold (A ++ C) w k h r k′ h′) (place-kept t ∙ placed t)
+        ∙ row-same _ k k′ h h′ r
+        ∙ ap (λ (w : Where). RowTold A w k h r k′ h′) (sym (placed t))
+
     pub kept : Kept A C n
     unfolding radialTold
     kept =
@@ -84,15 +96,16 @@ module _ (A C : List ℕ) (some : 0 < length C) where
           moment = λ t. ap (momentTold (A ++ C)) (place-kept t ∙ placed t) ∙ moment-same _ ∙ ap (momentTold A) (sym (placed t));
           bytes = λ t. ap (dataTold (A ++ C)) (place-kept t ∙ placed t) ∙ data-same _ ∙ ap (dataTold A) (sym (placed t));
           gate = λ t i. ap (λ (w : Where). gateTold (A ++ C) w i) (place-kept t ∙ placed t) ∙ gate-same _ i ∙ ap (λ (w : Where). gateTold A w i) (sym (placed t));
+          row = λ t k k′ h h′ r. (transport (row-kept t k k′ h h′ r), transport (sym (row-kept t k k′ h h′ r)));
         }
 
   -- ---- any gate
 
-  nowhere : (n t i : ℕ) → nth (stretches A) n ≡ found.Nowhere → gateAsked A n t i ≡ gate.Refused 30
+  nowhere : (n t i : ℕ) → nth (stretches A) n ≡ found.Nowhere → gateAsked A n t i ≡ refused 30 0
   unfolding inFound gateTold
   nowhere n t i e = rw e
 
-  gate-grows : (n t i : ℕ) (v : Found) → nth (stretches A) n ≡ v → (gateAsked A n t i ≡ gate.Refused 30) ⊎ (gateAsked (A ++ C) n t i ≡ gateAsked A n t i)
+  gate-grows : (n t i : ℕ) (v : Found) → nth (stretches A) n ≡ v → (gateAsked A n t i ≡ refused 30 0) ⊎ (gateAsked (A ++ C) n t i ≡ gateAsked A n t i)
   gate-grows n t i found.Nowhere e = inl (nowhere n t i e)
   gate-grows n t i (found.There s) e = inr (kept n s e .gate t i)
 
@@ -107,29 +120,29 @@ module _ (A C : List ℕ) (some : 0 < length C) where
             ∙ ap (λ (x : Tally). added x (tallyOver (A ++ C) cut t (h .later))) (tally-same A C cut t (stretches A) (h .bytes)),
       )
 
-  told-31 : (b : Bool) (x : Tally) → tallyTold b x ≡ Refused 31 → b ≡ true
+  told-31 : (b : Bool) (x : Tally) → tallyTold b x ≡ refused 31 0 → b ≡ true
   unfolding tallyTold
   told-31 true x e = refl
   told-31 false x e = cc
 
-  told-counted : (b : Bool) (x a : Tally) → tallyTold b x ≡ Counted a → (b ≡ true) × ((x ≡ a) × (x .radials ≡ 0 → ⊥))
+  told-counted : (b : Bool) (x a : Tally) → tallyTold b x ≡ answered a → (b ≡ true) × ((x ≡ a) × (x .radials ≡ 0 → ⊥))
   unfolding tallyTold
   told-counted true x a e = go (eqb (x .radials) 0) refl
     where
       go : (z : Bool) → eqb (x .radials) 0 ≡ z → (true ≡ true) × ((x ≡ a) × (x .radials ≡ 0 → ⊥))
-      go true z = let e1 : cond true (Refused 31) (Counted x) ≡ Counted a = rw z at e in absurd (let y : _≡_ {A = ℕ} 0 1 = cc in omega arith)
-      go false z = let e1 : cond false (Refused 31) (Counted x) ≡ Counted a = rw z at e in (refl, (cc, eqb-false (x .radials) 0 z))
+      go true z = let e1 : cond true (refused 31 0) (answered x) ≡ answered a = rw z at e in absurd (let y : _≡_ {A = ℕ} 0 1 = cc in omega arith)
+      go false z = let e1 : cond false (refused 31 0) (answered x) ≡ answered a = rw z at e in (refl, (cc, eqb-false (x .radials) 0 z))
   told-counted false x a e = absurd (let y : _≡_ {A = ℕ} 0 1 = cc in omega arith)
 
-  told-either : (x : Tally) → (tallyTold true x ≡ Refused 31) ⊎ ((b : Tally) × (tallyTold true x ≡ Counted b))
+  told-either : (x : Tally) → (tallyTold true x ≡ refused 31 0) ⊎ ((b : Tally) × (tallyTold true x ≡ answered b))
   unfolding tallyTold
   told-either x = go (eqb (x .radials) 0)
     where
-      go : (z : Bool) → (cond z (Refused 31) (Counted x) ≡ Refused 31) ⊎ ((b : Tally) × (cond z (Refused 31) (Counted x) ≡ Counted b))
+      go : (z : Bool) → (cond z (refused 31 0) (answered x) ≡ refused 31 0) ⊎ ((b : Tally) × (cond z (refused 31 0) (answered x) ≡ answered b))
       go true = inl refl
       go false = inr (x, refl)
 
-  told-some : (x : Tally) → (x .radials ≡ 0 → ⊥) → tallyTold true x ≡ Counted x
+  told-some : (x : Tally) → (x .radials ≡ 0 → ⊥) → tallyTold true x ≡ answered x
   unfolding tallyTold
   told-some x h = rw (ne-eqb (x .radials) 0 h)
 

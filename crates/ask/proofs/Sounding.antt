@@ -24,6 +24,9 @@ use Rattle.radial.specs.declared.Radial.{Radial}
 use Rattle.moment.specs.Moment.{momentOf, momentAt, momentCheck, momentRules}
 use Rattle.radial.specs.Radial.{radialOf, radialAt}
 use Rattle.rules.proofs.Judged.{all-hold}
+use Rattle.gates.specs.Codes.{gatesIn}
+use Rattle.gates.proofs.Codes.{codes-gates}
+use Rattle.gates.proofs.Exact.{lossless}
 use Rattle.moments.specs.declared.Found as moment
 use Rattle.moments.specs.Moments.{after, momentsFrom, momentsOf, findIn, dataAt}
 use Rattle.reading.specs.declared.Found.{Found}
@@ -33,6 +36,7 @@ use Rattle.reading.specs.Reading.{stretches, nth, bytesOf}
 use Rattle.reading.specs.Tiling.{dueWith, Tiled, none, more, WholeRadial, AllWhole}
 use Rattle.reading.proofs.Radials.{all-whole}
 use Rattle.ask.specs.declared.places.Where.the-variants.{At}
+use Rattle.ask.specs.Answers.{codingOf}
 use Rattle.ask.specs.Places.{inStretch, inFound, whereIs}
 use Rattle.ask.specs.Sound.{Sound}
 use Rattle.ask.proofs.Growing.{Placed, nth-of, nth-placed}
@@ -60,12 +64,16 @@ header-sound b p d e r =
     let oo = o .1 in
     let ls : h .scale < 65536 = omega arith in
     let lo : h .offset < 65536 = omega arith in
+    let bin = bin-is (bit (d .sizes) (h .«data_type»)) (h .«bin_length») (rw (exactly w16 2 (h .«bin_length») (lit< tt), exactly w16 1 (h .«bin_length») (lit< tt)) at (a .1 .1 .1 .0)) in
+    let bytes : length (dataAt b p) ≡ h .length = simp (length-take, length-drop) (omega arith) in
     record {
       scale = s;
       offset = o .1;
-      bin = bin-is (bit (d .sizes) (h .«data_type»)) (h .«bin_length») (rw (exactly w16 2 (h .«bin_length») (lit< tt), exactly w16 1 (h .«bin_length») (lit< tt)) at (a .1 .1 .1 .0));
+      bin = bin;
       coding = λ i. record { «data_type» = h .«data_type»; scale = mod-eq-of-lt ls i; offset = mod-eq-of-lt lo i };
-      bytes = simp (length-take, length-drop) (omega arith);
+      bytes = bytes;
+      gates = codes-gates (h .«bin_length») (dataAt b p) bin ∙ ap (λ (n : ℕ). gatesIn n (h .«bin_length»)) bytes;
+      float = λ code l. lossless (codingOf h) code l (omega arith) (omega arith);
     }
 
 -- ---- a radial's own stretch and the file
@@ -125,19 +133,26 @@ unfolding inStretch
 in-stretch x s (moment.the-variants.At q) p e = (cc, cc)
 in-stretch x s moment.the-variants.Nowhere p e = absurd (let z : _≡_ {A = ℕ} 0 1 = cc in omega arith)
 
-pub sound : (f : List ℕ) (n t : ℕ) (s : Stretch) (p : ℕ) → whereIs f n t ≡ At s p → Sound (bytesOf f s) p
+-- the radial is whole, and the moment is found in its stretch
+pub record Stands (f : List ℕ) (n t : ℕ) (s : Stretch) (p : ℕ) : Type 0 where
+  pub radial : nth (stretches f) n ≡ found.There s
+  pub moment : findIn (bytesOf f s) t (momentsOf (bytesOf f s)) ≡ moment.the-variants.At p
+
+pub stands : (f : List ℕ) (n t : ℕ) (s : Stretch) (p : ℕ) → whereIs f n t ≡ At s p → Stands f n t s p
 unfolding inFound
-sound f n t s p e = go (nth (stretches f) n) refl
+stands f n t s p e = go (nth (stretches f) n) refl
   where
-    go : (v : Found) → nth (stretches f) n ≡ v → Sound (bytesOf f s) p
+    go : (v : Found) → nth (stretches f) n ≡ v → Stands f n t s p
     go found.Nowhere q = absurd (let y : inFound f found.Nowhere t ≡ At s p = rw q at e in let z : _≡_ {A = ℕ} 0 1 = cc in omega arith)
     go (found.There x) q =
         let y : inStretch x (findIn (bytesOf f x) t (momentsOf (bytesOf f x))) ≡ At s p = rw q at e in
         let i = in-stretch x s _ p y in
-        let here : nth (stretches f) n ≡ found.There s = q ∙ ap found.There (i .0) in
-        let w = nth-of (AllWhole f) (WholeRadial f) (λ x l h. h) (stretches f) n s (all-whole f) here in
-        let h = nth-placed f n s here in
-        let at-p : findIn (bytesOf f s) t (momentsOf (bytesOf f s)) ≡ moment.the-variants.At p = rw (i .0) at (i .1) in
-        let r = own-radial f s h in
-        found-sound f s h t (w .mask) (w .sizes) _ 64 p (s .start + 64) 0 _ refl (w .moments)
-        (ap (λ (x : Radial). findIn (bytesOf f s) t (momentsFrom (x .«moment_number») (bytesOf f s) 64)) (sym r) ∙ at-p)
+        record { radial = q ∙ ap found.There (i .0); moment = rw (i .0) at (i .1) }
+
+pub sound : (f : List ℕ) (n t : ℕ) (s : Stretch) (p : ℕ) → whereIs f n t ≡ At s p → Sound (bytesOf f s) p
+sound f n t s p e =
+    let a = stands f n t s p e in
+    let w = nth-of (AllWhole f) (WholeRadial f) (λ x l h. h) (stretches f) n s (all-whole f) (a .radial) in
+    let h = nth-placed f n s (a .radial) in
+    found-sound f s h t (w .mask) (w .sizes) _ 64 p (s .start + 64) 0 _ refl (w .moments)
+    (ap (λ (x : Radial). findIn (bytesOf f s) t (momentsFrom (x .«moment_number») (bytesOf f s) 64)) (sym (own-radial f s h)) ∙ a .moment)

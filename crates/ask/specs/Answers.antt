@@ -4,7 +4,7 @@ use Prim.Native.Nat.{ℕ, _%_}
 use mathlib.Core.Bool.{cond}
 use mathlib.Core.List.{List, []}
 use mathlib.Core.Path.{_≡_}
-use lib.Dec.{ltb}
+use lib.Dec.{eqb, ltb}
 use lib.IntN.{ℤ}
 use lib.ListN.{length, getD}
 use Rattle.moment.specs.declared.Moment.{Moment}
@@ -13,8 +13,9 @@ use Rattle.radial.specs.Radial.{radialAt}
 use Rattle.gates.specs.declared.Coding.{Coding}
 use Rattle.gates.specs.declared.RowAnswer.{RowAnswer}
 use Rattle.gates.specs.Codes.{codesOf}
-use Rattle.gates.specs.Gates.{toldOf}
+use Rattle.gates.specs.Gates.{toldOf, Values, valuesOf}
 use Rattle.gates.specs.Rows.{toldRow, Rowed}
+use Rattle.gates.specs.Telling.{Telling, refused, answered}
 use Rattle.moments.specs.Moments.{dataAt}
 use Rattle.reading.specs.declared.Found.{Found}
 use Rattle.reading.specs.declared.Found.the-variants as found
@@ -40,6 +41,10 @@ momentTold f NoRadial = record { number = 30; header = momentAt [] 0 }
 momentTold f NoMoment = record { number = 31; header = momentAt [] 0 }
 momentTold f (At s p) = record { number = 0; header = momentAt (bytesOf f s) p }
 
+-- a moment's answer: its header; or the refusal's number, and place 0
+abbrev pub toldMoment : MomentAnswer → Telling Moment
+toldMoment a = cond (eqb (a .number) 0) (answered (a .header)) (refused (a .number) 0)
+
 -- the part of the file that holds a moment's data; refused, it is empty
 unfoldable pub dataTold : List ℕ → Where → List ℕ
 dataTold f NoRadial = []
@@ -51,21 +56,26 @@ dataTold f (At s p) = dataAt (bytesOf f s) p
 abbrev pub codingOf : Moment → Coding
 codingOf h = record { «data_type» = h .«data_type»; scale = h .scale % 65536; offset = h .offset % 65536 }
 
+-- a gate's answer: its values; or the refusal's number, and place 0
+abbrev pub toldGateAnswer : GateAnswer → Telling Values
+toldGateAnswer (Answered t) = answered (valuesOf t)
+toldGateAnswer (Refused number) = refused number 0
+
 -- a gate of a moment, from 0
-unfoldable pub gateIn : Moment → List ℕ → ℕ → GateAnswer
+unfoldable pub gateIn : Moment → List ℕ → ℕ → Telling Values
 gateIn h bytes i =
     cond (ltb i (length (codesOf (h .«bin_length») bytes)))
-    (Answered (toldOf (codingOf h) (getD (codesOf (h .«bin_length») bytes) i 0)))
-    (Refused 32)
+    (answered (valuesOf (toldOf (codingOf h) (getD (codesOf (h .«bin_length») bytes) i 0))))
+    (refused 32 0)
 
-unfoldable pub gateTold : List ℕ → Where → ℕ → GateAnswer
-gateTold f NoRadial i = Refused 30
-gateTold f NoMoment i = Refused 31
+unfoldable pub gateTold : List ℕ → Where → ℕ → Telling Values
+gateTold f NoRadial i = refused 30 0
+gateTold f NoMoment i = refused 31 0
 gateTold f (At s p) i = gateIn (momentAt (bytesOf f s) p) (dataAt (bytesOf f s) p) i
 
 -- a row: refused, both buffers are as they were
 pub record Unfilled (n : ℕ) (k : List ℕ) (h : List ℤ) (r : RowAnswer) (k′ : List ℕ) (h′ : List ℤ) : Type 0 where
-  pub answer : toldRow r ≡ (n, [])
+  pub answer : toldRow r ≡ refused n 0
   pub kinds : k′ ≡ k
   pub hundredths : h′ ≡ h
 

@@ -3,19 +3,24 @@ use Prim.Native.Nat.{ℕ, _≤_}
 use mathlib.Core.List.{List, _++_}
 use mathlib.Core.Logic.{_⊎_}
 use mathlib.Core.Path.{_≡_}
+use lib.IntN.{ℤ}
+use Rattle.gates.specs.declared.RowAnswer.{RowAnswer}
+use Rattle.gates.specs.Gates.{Values}
+use Rattle.gates.specs.Telling.{Telling, refused, answered}
 use Rattle.reading.specs.declared.Found.the-variants.{There}
 use Rattle.reading.specs.declared.Stretch.{Stretch}
 use Rattle.reading.specs.Reading.{stretches, nth}
-use Rattle.ask.specs.declared.answers.GateAnswer.{GateAnswer}
-use Rattle.ask.specs.declared.answers.GateAnswer.the-variants as gate
 use Rattle.ask.specs.declared.tallies.Tally.{Tally}
-use Rattle.ask.specs.declared.tallies.TallyAnswer.the-variants.{Counted, Refused}
-use Rattle.ask.specs.Answers.{radialOfFile, momentTold, dataTold, gateTold}
+use Rattle.ask.specs.Answers.{radialOfFile, momentTold, dataTold, gateTold, RowTold}
 use Rattle.ask.specs.Places.{whereIs}
 use Rattle.ask.specs.Tallies.{tallyAnswer}
 
-abbrev pub gateAsked : List ℕ → ℕ → ℕ → ℕ → GateAnswer
+abbrev pub gateAsked : List ℕ → ℕ → ℕ → ℕ → Telling Values
 gateAsked f n t i = gateTold f (whereIs f n t) i
+
+-- what a row promises of its answer and of both buffers
+abbrev pub rowAsked : List ℕ → ℕ → ℕ → List ℕ → List ℤ → RowAnswer → List ℕ → List ℤ → Type 0
+rowAsked f n t k h r k′ h′ = RowTold f (whereIs f n t) k h r k′ h′
 
 -- no count of a is above that of b
 pub record NoFewer (a b : Tally) : Type 0 where
@@ -34,12 +39,14 @@ pub record Kept (A C : List ℕ) (n : ℕ) : Type 0 where
   pub moment : (t : ℕ) → momentTold (A ++ C) (whereIs (A ++ C) n t) ≡ momentTold A (whereIs A n t)
   pub bytes : (t : ℕ) → dataTold (A ++ C) (whereIs (A ++ C) n t) ≡ dataTold A (whereIs A n t)
   pub gate : (t i : ℕ) → gateAsked (A ++ C) n t i ≡ gateAsked A n t i
+  pub row : (t : ℕ) (k k′ : List ℕ) (h h′ : List ℤ) (r : RowAnswer)
+      → (rowAsked (A ++ C) n t k h r k′ h′ → rowAsked A n t k h r k′ h′) × (rowAsked A n t k h r k′ h′ → rowAsked (A ++ C) n t k h r k′ h′)
 
 pub record AnswersGrow (A C : List ℕ) : Type 0 where
   pub whole : (n : ℕ) (s : Stretch) → nth (stretches A) n ≡ There s → Kept A C n
   -- a gate's 30 may turn into an answer, 31 or 32; any other answer stays
-  pub gate : (n t i : ℕ) → (gateAsked A n t i ≡ gate.Refused 30) ⊎ (gateAsked (A ++ C) n t i ≡ gateAsked A n t i)
+  pub gate : (n t i : ℕ) → (gateAsked A n t i ≡ refused 30 0) ⊎ (gateAsked (A ++ C) n t i ≡ gateAsked A n t i)
   -- a tally's 31 stays or turns into a tally, and no count of a tally falls
-  pub uncounted : (cut t : ℕ) → tallyAnswer A cut t ≡ Refused 31
-      → (tallyAnswer (A ++ C) cut t ≡ Refused 31) ⊎ ((b : Tally) × (tallyAnswer (A ++ C) cut t ≡ Counted b))
-  pub counted : (cut t : ℕ) (a : Tally) → tallyAnswer A cut t ≡ Counted a → (b : Tally) × ((tallyAnswer (A ++ C) cut t ≡ Counted b) × NoFewer a b)
+  pub uncounted : (cut t : ℕ) → tallyAnswer A cut t ≡ refused 31 0
+      → (tallyAnswer (A ++ C) cut t ≡ refused 31 0) ⊎ ((b : Tally) × (tallyAnswer (A ++ C) cut t ≡ answered b))
+  pub counted : (cut t : ℕ) (a : Tally) → tallyAnswer A cut t ≡ answered a → (b : Tally) × ((tallyAnswer (A ++ C) cut t ≡ answered b) × NoFewer a b)

@@ -3,3 +3,4 @@ pub mod Answers
 pub mod Tallies
 pub mod Growth
 pub mod Sound
+pub mod Asked

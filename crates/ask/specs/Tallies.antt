@@ -9,6 +9,7 @@ use Rattle.moment.specs.Moment.{momentAt}
 use Rattle.gates.specs.Codes.{codesOf}
 use Rattle.gates.specs.Counting.{countsOf, summed}
 use Rattle.gates.specs.Gates.{kindOf}
+use Rattle.gates.specs.Telling.{Telling, refused, answered}
 use Rattle.moments.specs.Moments.{momentsOf, findIn, dataAt}
 use Rattle.walk.specs.declared.due.Walk.{Walk}
 use Rattle.reading.specs.declared.Stretch.{Stretch}
@@ -55,9 +56,14 @@ tallyOf f cut t = tallyOver f cut t (stretches f)
 unfoldable pub cutAccepted : Walk → ℕ → Bool
 cutAccepted w cut = within 1 (w .plan .cuts) cut && leb (cutPlace cut + cutSize) (w .at)
 
--- 30 where the cut's block is not accepted, then 31 where no whole radial of the cut carries the type
-unfoldable pub tallyTold : Bool → Tally → TallyAnswer
-tallyTold accepted t = cond accepted (cond (eqb (t .radials) 0) (Refused 31) (Counted t)) (Refused 30)
+-- a tally's answer: the tally; or the refusal's number, and place 0
+abbrev pub toldTally : TallyAnswer → Telling Tally
+toldTally (Counted t) = answered t
+toldTally (Refused number) = refused number 0
 
-abbrev pub tallyAnswer : List ℕ → ℕ → ℕ → TallyAnswer
+-- 30 where the cut's block is not accepted, then 31 where no whole radial of the cut carries the type
+unfoldable pub tallyTold : Bool → Tally → Telling Tally
+tallyTold accepted t = cond accepted (cond (eqb (t .radials) 0) (refused 31 0) (answered t)) (refused 30 0)
+
+abbrev pub tallyAnswer : List ℕ → ℕ → ℕ → Telling Tally
 tallyAnswer f cut t = tallyTold (cutAccepted (stop f) cut) (tallyOf f cut t)

@@ -1,7 +1,7 @@
 // What is answered of a radial, a moment, a gate and a row.
 ghost use mathlib.Core.Path.{_≡_};
 ghost use Rattle.ask.specs.Places.{whereIs};
-ghost use Rattle.ask.specs.Answers.{radialOfFile, momentTold, dataTold, codingOf, gateIn, gateTold, RowTold};
+ghost use Rattle.ask.specs.Answers.{radialOfFile, momentTold, dataTold, codingOf, toldGateAnswer, gateIn, gateTold, RowTold};
 use crate::places;
 use crate::places::Where;
 use gates::Coding;
@@ -90,7 +90,7 @@ pub(crate) fn coding(h: Moment) -> Coding
 
 // A gate of a moment's data.
 pub(crate) fn gate_in(h: Moment, bytes: &[u8], i: usize) -> GateAnswer
-    ensures { λ r. ⌜ r ≡ gateIn h (now (bytes .entry)) i ⌝ }
+    ensures { λ r. ⌜ toldGateAnswer r ≡ gateIn h (now (bytes .entry)) i ⌝ }
 {
     if i < gates::gates_in(bytes, h.bin_length) {
         let code = gates::code_at(bytes, h.bin_length, i);
@@ -101,7 +101,7 @@ pub(crate) fn gate_in(h: Moment, bytes: &[u8], i: usize) -> GateAnswer
 
 // A gate of the moment of a type, from 0.
 pub fn gate(file: &[u8], sequence: usize, t: u32, i: usize) -> GateAnswer
-    ensures { λ r. ⌜ r ≡ gateTold (now (file .entry)) (whereIs (now (file .entry)) sequence t) i ⌝ }
+    ensures { λ r. ⌜ toldGateAnswer r ≡ gateTold (now (file .entry)) (whereIs (now (file .entry)) sequence t) i ⌝ }
 {
     match places::find(file, sequence, t) {
         Where::At(s, p) => {

@@ -2,7 +2,7 @@
 ghost use mathlib.Core.Path.{_≡_};
 ghost use Prim.Native.Nat.{_+_, _<_, _^_};
 ghost use Rattle.gates.specs.Counting.{totalOf};
-ghost use Rattle.ask.specs.Tallies.{noTally, added, tallyOne, cutAccepted, tallyTold, tallyAnswer};
+ghost use Rattle.ask.specs.Tallies.{noTally, added, tallyOne, cutAccepted, toldTally, tallyTold, tallyAnswer};
 use crate::answers;
 use crate::places;
 use crate::places::Where;
@@ -95,7 +95,7 @@ fn accepted(w: Walk, cut: u32) -> bool
 }
 
 fn told(accepted: bool, t: Tally) -> TallyAnswer
-    ensures { λ r. ⌜ r ≡ tallyTold accepted t ⌝ }
+    ensures { λ r. ⌜ toldTally r ≡ tallyTold accepted t ⌝ }
 {
     if accepted {
         if t.radials == 0 {
@@ -108,7 +108,7 @@ fn told(accepted: bool, t: Tally) -> TallyAnswer
 
 // One pass over the whole radials.
 pub fn tally_of(file: &[u8], cut: u32, t: u32) -> TallyAnswer
-    ensures { λ r. ⌜ r ≡ tallyAnswer (now (file .entry)) cut t ⌝ }
+    ensures { λ r. ⌜ toldTally r ≡ tallyAnswer (now (file .entry)) cut t ⌝ }
 {
     let mut w = Walk::begin();
     let mut so_far = none();

@@ -5,7 +5,7 @@ use mathlib.Core.Path.{_≡_, refl, sym, ap, _∙_}
 use Prim.Native.Nat.{ℕ, _+_, _≤_}
 use native.Mathlib.Omega.{arith}
 use borrow.Author.Tests.{le-ltb, lt-leb, leb-false}
-use lib.Dec.{leb}
+use lib.Dec.{eqb, leb}
 use lib.IntN.{ℤ}
 use lib.ListN.{length}
 use Rattle.le.specs.Le.{stored}
@@ -14,8 +14,9 @@ use Rattle.gates.specs.declared.RowAnswer.{RowAnswer}
 use Rattle.gates.specs.declared.RowAnswer.the-variants as row
 use Rattle.gates.specs.Codes.{codesOf}
 use Rattle.gates.specs.Rows.{rooms, Rowed}
+use Rattle.gates.specs.Telling.{refused, answered}
 use Rattle.gates.proofs.Rows.{row-one}
-use Rattle.gates.proofs.Tellings.{told-gate-one}
+use Rattle.gates.proofs.Tellings.{told-gate-one, values-one}
 use Rattle.moment.specs.Moment.{momentAt}
 use Rattle.moments.specs.Moments.{dataAt}
 use Rattle.walk.specs.declared.due.Walk.{Walk}
@@ -26,17 +27,17 @@ use Rattle.reading.specs.declared.Verdict.{Verdict}
 use Rattle.reading.specs.declared.Verdict.the-variants as verdict
 use Rattle.reading.specs.declared.step.Step.{Step}
 use Rattle.reading.specs.declared.step.Step.the-variants as step
-use Rattle.reading.specs.Reading.{Tells, verdictTold, ending, endingTold, fuel, bytesOf}
+use Rattle.reading.specs.Reading.{Tells, verdictTold, ending, endingTold, fuel, stop, bytesOf}
 use Rattle.reading.proofs.Run.{stays, last-off, enough}
-use Rattle.ask.specs.declared.answers.GateAnswer.the-variants as gate
 use Rattle.ask.specs.declared.places.Where.{Where}
 use Rattle.ask.specs.declared.places.Where.the-variants.{At, NoRadial, NoMoment}
 use Rattle.ask.specs.declared.tallies.Tally.{Tally}
-use Rattle.ask.specs.declared.tallies.TallyAnswer.the-variants as tally
 use Rattle.ask.specs.Answers.{radialTold, momentTold, dataTold, codingOf, gateIn, gateTold, Unfilled, RowTold}
 use Rattle.ask.specs.Places.{inFound}
-use Rattle.ask.specs.Tallies.{tallyTold}
-use Rattle.lent.specs.Lending.{lentOf}
+use Rattle.ask.specs.Tallies.{tallyOf, cutAccepted, tallyTold}
+use Rattle.ask.proofs.Asked.{as-asked}
+use Rattle.ask.proofs.Tellings.{told-gate-answer-one, told-tally-one, row-told-one}
+use Rattle.lent.specs.Lending.{lentOf, toldLent}
 use Rattle.index.specs.declared.Answer.{Answer}
 use Rattle.index.specs.declared.Answer.the-variants as index
 use Rattle.index.specs.Answer.{complete, toldIndex, answerOf, roomOf, Writes}
@@ -66,7 +67,7 @@ ends f = go (ending f) refl (last-off (fuel f) f atStart (enough f atStart))
 -- ---- what is refused, with which number and place
 
 past-the-gates : (f : List ℕ) (s : Stretch) (p i : ℕ) → length (codesOf (momentAt (bytesOf f s) p .«bin_length») (dataAt (bytesOf f s) p)) ≤ i
-    → gateTold f (At s p) i ≡ gate.Refused 32
+    → gateTold f (At s p) i ≡ refused 32 0
 unfolding gateTold gateIn
 past-the-gates f s p i h = rw (le-ltb i (length (codesOf (momentAt (bytesOf f s) p .«bin_length») (dataAt (bytesOf f s) p))) h)
 
@@ -81,6 +82,7 @@ questions f n t =
       gate-30 = λ i e. rw e;
       gate-31 = λ i e. rw e;
       gate-32 = λ i s p e h. ap (λ (a : Where). gateTold f a i) e ∙ past-the-gates f s p i h;
+      as-asked = as-asked f n t;
     }
 
 rows : (f : List ℕ) (at : Where) (k k′ : List ℕ) (h h′ : List ℤ) (r : RowAnswer) → Row f at k k′ h h′ r
@@ -95,9 +97,24 @@ rows f at k k′ h h′ r =
           rw short at (u .answer);
     }
 
+-- the number in a lent record tells a refusal from a tally
+lent-told : (old : Tally) (accepted : Bool) (t : Tally) → toldLent (lentOf old (tallyTold accepted t)) ≡ tallyTold accepted t
+unfolding tallyTold lentOf
+lent-told old true t = go (eqb (t .radials) 0)
+  where
+    go : (z : Bool) → toldLent (lentOf old (cond z (refused 31 0) (answered t))) ≡ cond z (refused 31 0) (answered t)
+    go true = refl
+    go false = refl
+lent-told old false t = refl
+
 tallies : (f : List ℕ) (cut t : ℕ) → Tallied f cut t
 unfolding tallyTold
-tallies f cut t = record { tally-30 = λ e. rw e; tally-31 = λ e z. rw (e, z) }
+tallies f cut t =
+    record {
+      tally-30 = λ e. rw e;
+      tally-31 = λ e z. rw (e, z);
+      lent = λ old. lent-told old (cutAccepted (stop f) cut) (tallyOf f cut t);
+    }
 
 indexes : (f : List ℕ) (room : ℕ) → Indexed f room
 unfolding answerOf
@@ -111,10 +128,10 @@ put-no : (b : Block) (w : Walk) (room : List ℕ) → agrees w room ≡ false �
 unfolding put
 put-no b w room a = rw a
 
-answered : (a : writer.Answer) (says : Step) (bs : List ℕ) (w : Walk) (room : List ℕ) → outcome a says bs w room .answer ≡ a
+outcome-is : (a : writer.Answer) (says : Step) (bs : List ℕ) (w : Walk) (room : List ℕ) → outcome a says bs w room .answer ≡ a
 unfolding outcome
-answered Taken says bs w room = refl
-answered (Refused n p) says bs w room = refl
+outcome-is Taken says bs w room = refl
+outcome-is (Refused n p) says bs w room = refl
 
 -- where state and room agree, the order that is left
 answer-is : (b : Block) (w : Walk) (room : List ℕ) → agrees w room ≡ true
@@ -122,7 +139,7 @@ answer-is : (b : Block) (w : Walk) (room : List ℕ) → agrees w room ≡ true
 unfolding putOn answerTo
 answer-is b w room a =
     ap (λ (o : Outcome). o .answer) (put-yes b w room a)
-    ∙ answered (answerTo (kindOf b) (saysOf b room w) (fitsOf b w) (lengthOf b) w (length room)) (saysOf b room w) (blockBytes b) w room
+    ∙ outcome-is (answerTo (kindOf b) (saysOf b room w) (fitsOf b w) (lengthOf b) w (length room)) (saysOf b room w) (blockBytes b) w room
     ∙ rw (le-ltb (length room) (w .at) (tests-agreement w room .yes a .within))
 
 writer-refuses : (b : Block) (w : Walk) (room : List ℕ) → WriterRefuses b w room
@@ -167,7 +184,9 @@ row-kept f (At s p) k k′ h h′ n r =
     go (rooms codes k h) refl
   where
     go : (t : Bool) → rooms (codesOf (momentAt (bytesOf f s) p .«bin_length») (dataAt (bytesOf f s) p)) k h ≡ t → (k′ ≡ k) × (h′ ≡ h)
-    go true e = absurd (let z : _≡_ {A = ℕ} 0 1 = ap (λ (x : ℕ × List ℕ). length (x .1)) (rw e at (r .answer)) in omega arith)
+    go true e =
+        let a : refused n 0 ≡ answered (length (codesOf (momentAt (bytesOf f s) p .«bin_length») (dataAt (bytesOf f s) p))) = rw e at (r .answer) in
+        absurd (let z : _≡_ {A = ℕ} 0 1 = cc in omega arith)
     go false e = (rw e at (r .kinds), rw e at (r .hundredths))
 
 too-long : (x room : List ℕ) → leb (length x) (length room) ≡ false → stored (length x) room 0 x ≡ room
@@ -184,9 +203,9 @@ index-kept f before after n r = go (complete f) (leb (length (indexOf f)) (lengt
     go true false p q = rw p at (r .room) ∙ too-long (indexOf f) before q
     go false t p q = rw p at (r .room)
 
-tally-kept : (old : Tally) (n : ℕ) → lentOf old (tally.Refused n) .tally ≡ old
+tally-kept : (old : Tally) (n p : ℕ) → lentOf old (refused n p) .tally ≡ old
 unfolding lentOf
-tally-kept old n = refl
+tally-kept old n p = refl
 
 unchanged : Unchanged
 unchanged =
@@ -227,7 +246,11 @@ determined =
       verdict = verdict-one;
       reading = reading-one;
       gate = told-gate-one;
+      gate-told = values-one;
+      gate-asked = told-gate-answer-one;
+      tally = told-tally-one;
       row = λ c codes k h a b k₁ k₂ h₁ h₂ x y. row-one x y;
+      row-asked = row-told-one;
       index = λ f before a b x y p q. (told-once a b (p .answer ∙ sym (q .answer)), p .room ∙ sym (q .room));
       put = puts-same;
     }

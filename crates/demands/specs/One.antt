@@ -13,9 +13,11 @@ use Rattle.gates.specs.declared.Coding.{Coding}
 use Rattle.gates.specs.declared.Gate.{Gate}
 use Rattle.gates.specs.declared.RowAnswer.{RowAnswer}
 use Rattle.gates.specs.declared.RowAnswer.the-variants as row
+use Rattle.gates.specs.declared.Told.{Told}
 use Rattle.gates.specs.Codes.{codesOf}
-use Rattle.gates.specs.Gates.{toldGate}
+use Rattle.gates.specs.Gates.{toldGate, valuesOf}
 use Rattle.gates.specs.Rows.{toldRow, rooms, Rowed}
+use Rattle.gates.specs.Telling.{refused}
 use Rattle.moment.specs.Moment.{momentAt}
 use Rattle.moments.specs.Moments.{dataAt}
 use Rattle.walk.specs.declared.due.Walk.{Walk}
@@ -26,16 +28,17 @@ use Rattle.reading.specs.declared.Stretch.{Stretch}
 use Rattle.reading.specs.declared.Verdict.{Verdict}
 use Rattle.reading.specs.declared.step.Step.the-variants as step
 use Rattle.reading.specs.Reading.{Tells, verdictTold, stop, stretches, nth, told, bytesOf}
-use Rattle.ask.specs.declared.answers.GateAnswer.the-variants as gate
+use Rattle.ask.specs.declared.answers.GateAnswer.{GateAnswer}
 use Rattle.ask.specs.declared.places.Where.{Where}
 use Rattle.ask.specs.declared.places.Where.the-variants.{At, NoRadial, NoMoment}
 use Rattle.ask.specs.declared.tallies.Tally.{Tally}
-use Rattle.ask.specs.declared.tallies.TallyAnswer.the-variants as tally
-use Rattle.ask.specs.Answers.{radialOfFile, momentTold, dataTold, RowTold}
+use Rattle.ask.specs.declared.tallies.TallyAnswer.{TallyAnswer}
+use Rattle.ask.specs.Answers.{radialOfFile, momentTold, toldMoment, dataTold, toldGateAnswer, RowTold}
+use Rattle.ask.specs.Asked.{AsAsked}
 use Rattle.ask.specs.Growth.{gateAsked}
 use Rattle.ask.specs.Places.{whereIs}
-use Rattle.ask.specs.Tallies.{tallyOf, cutAccepted, tallyAnswer}
-use Rattle.lent.specs.Lending.{lentOf}
+use Rattle.ask.specs.Tallies.{tallyOf, cutAccepted, toldTally, tallyAnswer}
+use Rattle.lent.specs.Lending.{lentOf, toldLent}
 use Rattle.index.specs.declared.Answer.{Answer}
 use Rattle.index.specs.declared.Answer.the-variants as index
 use Rattle.index.specs.Answer.{complete, answerOf, Writes}
@@ -53,28 +56,31 @@ pub data Ending (f : List ℕ) : Type 0 where
   is-refused : (n p : ℕ) → told f ≡ 2 ∷ n ∷ p ∷ [] → Ending f
 
 -- a question on a radial that is not whole is refused by 30, on a moment that it does not have by 31, on a gate that this
--- does not have by 32; the place is 0, and the data of a refused moment are empty
+-- does not have by 32; the place is 0, and the data of a refused moment are empty. What is answered is what was asked for
 pub record Questions (f : List ℕ) (n t : ℕ) : Type 0 where
   pub radial : nth (stretches f) n ≡ Nowhere → (radialOfFile f n .number ≡ 30) × (radialOfFile f n .place ≡ 0)
   pub no-radial : nth (stretches f) n ≡ Nowhere → whereIs f n t ≡ NoRadial
-  pub moment-30 : whereIs f n t ≡ NoRadial → (momentTold f (whereIs f n t) .number ≡ 30) × (dataTold f (whereIs f n t) ≡ [])
-  pub moment-31 : whereIs f n t ≡ NoMoment → (momentTold f (whereIs f n t) .number ≡ 31) × (dataTold f (whereIs f n t) ≡ [])
-  pub gate-30 : (i : ℕ) → whereIs f n t ≡ NoRadial → gateAsked f n t i ≡ gate.Refused 30
-  pub gate-31 : (i : ℕ) → whereIs f n t ≡ NoMoment → gateAsked f n t i ≡ gate.Refused 31
+  pub moment-30 : whereIs f n t ≡ NoRadial → (toldMoment (momentTold f (whereIs f n t)) ≡ refused 30 0) × (dataTold f (whereIs f n t) ≡ [])
+  pub moment-31 : whereIs f n t ≡ NoMoment → (toldMoment (momentTold f (whereIs f n t)) ≡ refused 31 0) × (dataTold f (whereIs f n t) ≡ [])
+  pub gate-30 : (i : ℕ) → whereIs f n t ≡ NoRadial → gateAsked f n t i ≡ refused 30 0
+  pub gate-31 : (i : ℕ) → whereIs f n t ≡ NoMoment → gateAsked f n t i ≡ refused 31 0
   pub gate-32 : (i : ℕ) (s : Stretch) (p : ℕ) → whereIs f n t ≡ At s p
-      → length (codesOf (momentAt (bytesOf f s) p .«bin_length») (dataAt (bytesOf f s) p)) ≤ i → gateAsked f n t i ≡ gate.Refused 32
+      → length (codesOf (momentAt (bytesOf f s) p .«bin_length») (dataAt (bytesOf f s) p)) ≤ i → gateAsked f n t i ≡ refused 32 0
+  pub as-asked : AsAsked f n t
 
--- a row is refused by 30 and 31 as a gate is, and then by 33 where either buffer is too short
+-- a row is refused by 30 and 31 as a gate is, and then by 33 where either buffer is too short, all with place 0
 pub record Row (f : List ℕ) (at : Where) (k k′ : List ℕ) (h h′ : List ℤ) (r : RowAnswer) : Type 0 where
-  pub row-30 : at ≡ NoRadial → RowTold f at k h r k′ h′ → toldRow r ≡ (30, [])
-  pub row-31 : at ≡ NoMoment → RowTold f at k h r k′ h′ → toldRow r ≡ (31, [])
+  pub row-30 : at ≡ NoRadial → RowTold f at k h r k′ h′ → toldRow r ≡ refused 30 0
+  pub row-31 : at ≡ NoMoment → RowTold f at k h r k′ h′ → toldRow r ≡ refused 31 0
   pub row-33 : (s : Stretch) (p : ℕ) → at ≡ At s p → rooms (codesOf (momentAt (bytesOf f s) p .«bin_length») (dataAt (bytesOf f s) p)) k h ≡ false
-      → RowTold f at k h r k′ h′ → toldRow r ≡ (33, [])
+      → RowTold f at k h r k′ h′ → toldRow r ≡ refused 33 0
 
--- a tally is refused by 30 where the cut's block is not accepted, then by 31 where no whole radial of the cut has the type
+-- a tally is refused by 30 where the cut's block is not accepted, then by 31 where no whole radial of the cut has the
+-- type, both with place 0; through the lent record the caller is told the same
 pub record Tallied (f : List ℕ) (cut t : ℕ) : Type 0 where
-  pub tally-30 : cutAccepted (stop f) cut ≡ false → tallyAnswer f cut t ≡ tally.Refused 30
-  pub tally-31 : cutAccepted (stop f) cut ≡ true → tallyOf f cut t .radials ≡ 0 → tallyAnswer f cut t ≡ tally.Refused 31
+  pub tally-30 : cutAccepted (stop f) cut ≡ false → tallyAnswer f cut t ≡ refused 30 0
+  pub tally-31 : cutAccepted (stop f) cut ≡ true → tallyOf f cut t .radials ≡ 0 → tallyAnswer f cut t ≡ refused 31 0
+  pub lent : (old : Tally) → toldLent (lentOf old (tallyAnswer f cut t)) ≡ tallyAnswer f cut t
 
 -- an index is refused by 36 where the file is not complete, then by 33 where the room is too short, both with place 0
 pub record Indexed (f : List ℕ) (room : ℕ) : Type 0 where
@@ -102,17 +108,22 @@ pub record Unchanged : Type 0 where
   pub put-on : (b : Block) (w : Walk) (room : List ℕ) (n p : ℕ) → putOn b w room .answer ≡ Refused n p
       → (putOn b w room .walk ≡ w) × (putOn b w room .room ≡ room)
   pub row : (f : List ℕ) (at : Where) (k k′ : List ℕ) (h h′ : List ℤ) (n : ℕ) → RowTold f at k h (row.Refused n) k′ h′ → (k′ ≡ k) × (h′ ≡ h)
-  pub tally : (old : Tally) (n : ℕ) → lentOf old (tally.Refused n) .tally ≡ old
+  pub tally : (old : Tally) (n p : ℕ) → lentOf old (refused n p) .tally ≡ old
   pub index : (f before after : List ℕ) (n : ℕ) → Writes f before (index.Refused n) after → after ≡ before
   pub block : (n : ℕ) (room : List ℕ) (at : ℕ) (bs : List ℕ) → length room < at + n → stored n room at bs ≡ room
 
--- two results that keep one promise are the same: those of reading, of a gate, of a row with its buffers, of an index and of
--- a put with its room; every other promise is an equation
+-- two results that keep one promise are the same: those of reading, of a gate, of what is told of it and of its answer, of
+-- a row with its buffers, of codes and of a file, of a tally, of an index and of a put with its room; every other promise is an equation
 pub record Determined : Type 0 where
   pub verdict : (a b : Verdict) → verdictTold a ≡ verdictTold b → a ≡ b
   pub reading : (f : List ℕ) (a b : Reading) → Tells f a → Tells f b → a ≡ b
   pub gate : (a b : Gate) → toldGate a ≡ toldGate b → a ≡ b
+  pub gate-told : (a b : Told) → valuesOf a ≡ valuesOf b → a ≡ b
+  pub gate-asked : (a b : GateAnswer) → toldGateAnswer a ≡ toldGateAnswer b → a ≡ b
+  pub tally : (a b : TallyAnswer) → toldTally a ≡ toldTally b → a ≡ b
   pub row : (c : Coding) (codes k : List ℕ) (h : List ℤ) (a b : RowAnswer) (k₁ k₂ : List ℕ) (h₁ h₂ : List ℤ) → Rowed c codes k h a k₁ h₁ → Rowed c codes k h b k₂ h₂
+      → (a ≡ b) × (k₁ ≡ k₂) × (h₁ ≡ h₂)
+  pub row-asked : (f : List ℕ) (at : Where) (k : List ℕ) (h : List ℤ) (a b : RowAnswer) (k₁ k₂ : List ℕ) (h₁ h₂ : List ℤ) → RowTold f at k h a k₁ h₁ → RowTold f at k h b k₂ h₂
       → (a ≡ b) × (k₁ ≡ k₂) × (h₁ ≡ h₂)
   pub index : (f before : List ℕ) (a b : Answer) (x y : List ℕ) → Writes f before a x → Writes f before b y → (a ≡ b) × (x ≡ y)
   pub put : (o : Outcome) (p q : Put) (held other : List ℕ) → Puts o p held → Puts o q other → (p ≡ q) × (held ≡ other)

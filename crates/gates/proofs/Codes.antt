@@ -2,6 +2,7 @@
 -- one byte and at two. Assumes nothing.
 use mathlib.Core.Path.{_≡_, refl, ap, sym, _∙_}
 use mathlib.Core.List.{List}
+use mathlib.Core.Logic.{_⊎_, inl, inr}
 use Prim.Native.Nat.{ℕ, zero, suc, _+_, _*_, _/_, _≤_, _<_}
 use native.Mathlib.Nat.{add-zero, zero-add, suc-mul, zero-mul, mul-one, mul-comm, div-one, div-le-self}
 use native.Mathlib.Omega.{arith}
@@ -9,7 +10,7 @@ use lib.ListN.{length, getD}
 use lib.Seq.{ext-getD}
 use borrow.Author.Tests.{eq-eqb, ne-eqb}
 use Rattle.le.specs.Le.{le, items}
-use Rattle.gates.specs.Codes.{widthOf, codesOf}
+use Rattle.gates.specs.Codes.{widthOf, gatesIn, codesOf}
 
 module _ {A : Type 0} (dec : List ℕ → ℕ → A) (k : ℕ) where
   length-items : (n : ℕ) (f : List ℕ) (at : ℕ) → length (items dec k n f at) ≡ n
@@ -25,9 +26,14 @@ module _ {A : Type 0} (dec : List ℕ → ℕ → A) (k : ℕ) where
       let e : at + suc i * k ≡ at + k + i * k = rw suc-mul (omega arith) in
       getD-items n f (at + k) i d (omega arith) ∙ ap (dec f) (sym e)
 
-pub length-codes : (bin : ℕ) (bytes : List ℕ) → length (codesOf bin bytes) ≡ length bytes / widthOf bin
+length-codes : (bin : ℕ) (bytes : List ℕ) → length (codesOf bin bytes) ≡ gatesIn (length bytes) (widthOf bin)
 unfolding codesOf
-length-codes bin bytes = length-items (le (widthOf bin)) (widthOf bin) (length bytes / widthOf bin) bytes 0
+length-codes bin bytes = length-items (le (widthOf bin)) (widthOf bin) (gatesIn (length bytes) (widthOf bin)) bytes 0
+
+-- at the bin lengths of accepted headers there is a code for each of the moment's gates
+pub codes-gates : (bin : ℕ) (bytes : List ℕ) → (bin ≡ 1) ⊎ (bin ≡ 2) → length (codesOf bin bytes) ≡ gatesIn (length bytes) bin
+codes-gates bin bytes (inl one) = length-codes bin bytes ∙ rw one
+codes-gates bin bytes (inr two) = length-codes bin bytes ∙ rw two
 
 pub codes-le : (bin : ℕ) (bytes : List ℕ) → length (codesOf bin bytes) ≤ length bytes
 codes-le bin bytes = rw (length-codes bin bytes) (div-le-self (length bytes) (widthOf bin))
@@ -37,7 +43,7 @@ pub code-is : (bin : ℕ) (bytes : List ℕ) (i : ℕ) → i < length (codesOf b
     → getD (codesOf bin bytes) i 0 ≡ le (widthOf bin) bytes (i * widthOf bin)
 unfolding codesOf
 code-is bin bytes i h =
-    let n = length bytes / widthOf bin in
+    let n = gatesIn (length bytes) (widthOf bin) in
     let w = widthOf bin in
     getD-items (le w) w n bytes 0 i 0 (omega (arith, length-items (le w) w n bytes 0)) ∙ ap (le w bytes) (zero-add (i * w))
 

@@ -1,4 +1,5 @@
 pub mod Signs
+pub mod Exact
 pub mod Gates
 pub mod Nearest
 pub mod Tellings

@@ -1,6 +1,6 @@
 -- Each telling of an answer is one-to-one: the answer can be found again from it, so two answers that are told alike are
 -- one. Assumes nothing.
-use mathlib.Core.Path.{_≡_, refl}
+use mathlib.Core.Path.{_≡_, refl, ap}
 use mathlib.Core.List.{List, [], _∷_}
 use mathlib.Mathlib.Logic.Function.Defs.{LeftInverse·injective}
 use Prim.Native.Nat.{ℕ}
@@ -10,8 +10,10 @@ use Rattle.gates.specs.declared.Gate.{Gate}
 use Rattle.gates.specs.declared.Gate.the-variants.{BelowThreshold, RangeFolded, NotScanned, Unknown, Reserved, Value}
 use Rattle.gates.specs.declared.RowAnswer.{RowAnswer}
 use Rattle.gates.specs.declared.RowAnswer.the-variants.{Filled, Refused}
-use Rattle.gates.specs.Gates.{toldGate}
+use Rattle.gates.specs.declared.Told.{Told}
+use Rattle.gates.specs.Gates.{toldGate, Values, valuesOf}
 use Rattle.gates.specs.Rows.{toldRow}
+use Rattle.gates.specs.Telling.{Telling, refused, answered}
 
 gateFound : ℕ × List Float → Gate
 gateFound t = go (t .1)
@@ -32,12 +34,18 @@ gate-back (Value x) = refl
 pub told-gate-one : (g h : Gate) → toldGate g ≡ toldGate h → g ≡ h
 told-gate-one = LeftInverse·injective gateFound toldGate gate-back
 
-rowFound : ℕ × List ℕ → RowAnswer
-rowFound t = go (t .1)
-  where
-    go : List ℕ → RowAnswer
-    go [] = Refused (t .0)
-    go (n ∷ xs) = Filled n
+pub values-one : (t u : Told) → valuesOf t ≡ valuesOf u → t ≡ u
+values-one t u e =
+    λ i. record {
+      gate = told-gate-one (t .gate) (u .gate) (ap (λ (v : Values). v .gate) e) i;
+      difference = e i .difference;
+      scale = e i .scale;
+      hundredths = e i .hundredths;
+    }
+
+rowFound : Telling ℕ → RowAnswer
+rowFound (answered n) = Filled n
+rowFound (refused number place) = Refused number
 
 row-back : (r : RowAnswer) → rowFound (toldRow r) ≡ r
 unfolding rowFound

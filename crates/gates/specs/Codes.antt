@@ -10,6 +10,10 @@ use Rattle.le.specs.Le.{le, items}
 abbrev pub widthOf : ℕ → ℕ
 widthOf bin = cond (eqb bin 1) 1 2
 
+-- the gates of a moment: length over bin length. No accepted header has bin length 0 (refusal 23), and over 0 it is 0
+abbrev pub gatesIn : ℕ → ℕ → ℕ
+gatesIn length bin = length / bin
+
 -- the codes in order, the low byte first; a last single byte of two-byte bins is no code
 unfoldable pub codesOf : ℕ → List ℕ → List ℕ
-codesOf bin bytes = items (le (widthOf bin)) (widthOf bin) (length bytes / widthOf bin) bytes 0
+codesOf bin bytes = items (le (widthOf bin)) (widthOf bin) (gatesIn (length bytes) (widthOf bin)) bytes 0

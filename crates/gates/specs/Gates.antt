@@ -61,3 +61,14 @@ toldOf c code = record {
   scale = cond (isValue (gateOf c code)) (c .scale) 0;
   hundredths = cond (isValue (gateOf c code)) (hundredthsOf c code) (pos 0);
 }
+
+-- the values of a gate's answer: its case by `toldGate`, the fraction's two numbers, the hundredths
+pub record Values : Type 0 where
+  pub gate : ℕ × List Float
+  pub difference : ℤ
+  pub scale : ℕ
+  pub hundredths : ℤ
+
+-- what is told of a gate, by its values
+abbrev pub valuesOf : Told → Values
+valuesOf t = record { gate = toldGate (t .gate); difference = t .difference; scale = t .scale; hundredths = t .hundredths }

@@ -1,20 +1,21 @@
 -- A row of gates in two lent buffers (document 01, "What reading tells").
 use mathlib.Core.Path.{_≡_}
 use mathlib.Core.Bool.{Bool, cond, _&&_}
-use mathlib.Core.List.{List, [], _∷_, _++_, map}
+use mathlib.Core.List.{List, _++_, map}
 use Prim.Native.Nat.{ℕ, _<_}
 use lib.Dec.{leb}
 use lib.IntN.{ℤ, pos}
 use lib.ListN.{length, getD, drop}
 use Rattle.gates.specs.Gates.{kindOf, toldOf}
+use Rattle.gates.specs.Telling.{Telling, refused, answered}
 use Rattle.gates.specs.declared.Coding.{Coding}
 use Rattle.gates.specs.declared.RowAnswer.{RowAnswer}
 use Rattle.gates.specs.declared.RowAnswer.the-variants.{Filled, Refused}
 
--- the refusal's number, or 0 and how many gates were filled in
-abbrev pub toldRow : RowAnswer → ℕ × List ℕ
-toldRow (Filled n) = (0, n ∷ [])
-toldRow (Refused number) = (number, [])
+-- how many gates were filled in; or the refusal's number, and place 0
+abbrev pub toldRow : RowAnswer → Telling ℕ
+toldRow (Filled n) = answered n
+toldRow (Refused number) = refused number 0
 
 -- the hundredths of a gate, 0 for one that is no value
 abbrev pub shownOf : Coding → ℕ → ℤ
@@ -35,6 +36,6 @@ filled new old = new ++ drop (length new) old
 
 -- the answer, and the buffers after: filled, or as they were where either is too short
 pub record Rowed (c : Coding) (codes : List ℕ) (k : List ℕ) (h : List ℤ) (r : RowAnswer) (k′ : List ℕ) (h′ : List ℤ) : Type 0 where
-  pub answer : toldRow r ≡ cond (rooms codes k h) (0, length codes ∷ []) (33, [])
+  pub answer : toldRow r ≡ cond (rooms codes k h) (answered (length codes)) (refused 33 0)
   pub kinds : k′ ≡ cond (rooms codes k h) (filled (map (kindOf c) codes) k) k
   pub hundredths : h′ ≡ cond (rooms codes k h) (filled (map (shownOf c) codes) h) h

@@ -4,7 +4,7 @@ ghost use mathlib.Core.Path.{_≡_};
 ghost use mathlib.Core.List.{[], _∷_, map};
 ghost use Prim.Native.Nat.{_+_, _*_, _^_, _≤_, _<_};
 ghost use lib.ListN.{length, getD};
-ghost use Rattle.gates.specs.Gates.{differenceOf, floatOf, gateOf, toldGate, kindOf, magnitudeOf, hundredthsOf, toldOf};
+ghost use Rattle.gates.specs.Gates.{differenceOf, floatOf, gateOf, toldGate, kindOf, magnitudeOf, hundredthsOf, toldOf, valuesOf};
 ghost use Rattle.gates.specs.Codes.{codesOf};
 ghost use Rattle.gates.specs.Rows.{Tabled, Rowed};
 ghost use Rattle.gates.specs.Counting.{countsOf, summed, totalOf};
@@ -61,7 +61,7 @@ fn quotient(c: Coding, code: u16) -> f64
 
 // What a code says: the five special codes, and a value for any other.
 pub fn gate_of(c: Coding, code: u16) -> Gate
-    ensures { λ r. ⌜ r ≡ gateOf c code ⌝ }
+    ensures { λ r. ⌜ toldGate r ≡ toldGate (gateOf c code) ⌝ }
 {
     match code {
         0 => Gate::BelowThreshold,
@@ -106,7 +106,7 @@ pub struct Told {
 }
 
 pub fn tell(c: Coding, code: u16) -> Told
-    ensures { λ r. ⌜ r ≡ toldOf c code ⌝ }
+    ensures { λ r. ⌜ valuesOf r ≡ valuesOf (toldOf c code) ⌝ }
 {
     let gate = gate_of(c, code);
     if gate.kind() == Gate::VALUE {

@@ -1,6 +1,7 @@
 -- The listing of a file: its lines as their numbers, and the way from line to line. The places cited are document 01's.
-use Prim.Native.Nat.{ℕ, zero, suc, _+_, _/_}
+use Prim.Native.Nat.{ℕ, zero, suc, _+_}
 use mathlib.Core.List.{List, [], _∷_, map, flatMap}
+use Rattle.gates.specs.Codes.{gatesIn}
 use Rattle.moment.specs.Moment.{momentAt, momentSize}
 use Rattle.radial.specs.Radial.{radialAt}
 use Rattle.moments.specs.declared.Ahead.{Ahead}
@@ -21,10 +22,6 @@ use Rattle.listing.specs.declared.Next.the-variants.{There, End}
 -- the line of a radial with stretch s and bytes b ("Numbers to try", radial line); b begins with the radial's header
 abbrev pub radialLine : List ℕ → Stretch → Line
 radialLine b s = line.Radial (radialAt b 0 .sequence) (s .start) (radialAt b 0 .state) (s .cut)
-
--- gates of a moment ("What reading tells"); a bin length of 0, which no whole radial has (refusal 23), makes it 0
-abbrev pub gatesIn : ℕ → ℕ → ℕ
-gatesIn length bin = length / bin
 
 -- the line of a moment with its header at `at` in the bytes b of a radial at `start` ("Numbers to try", moment line)
 abbrev pub momentLine : ℕ → List ℕ → ℕ → Line

@@ -2,8 +2,9 @@
 // the listing program): every whole radial, each with its moments behind it.
 ghost use mathlib.Core.Path.{_≡_};
 ghost use Prim.Native.Nat.{_+_, _<_, _^_};
+ghost use Rattle.gates.specs.Codes.{gatesIn};
 ghost use Rattle.moment.specs.Moment.{momentSize};
-ghost use Rattle.listing.specs.Listing.{radialLine, gatesIn, momentLine, atBegin, radialNext, lineOf};
+ghost use Rattle.listing.specs.Listing.{radialLine, momentLine, atBegin, radialNext, lineOf};
 use moment::Moment;
 use moments::Ahead;
 use moments::Place;

@@ -7,3 +7,4 @@ pub mod Masks
 pub mod Radials
 pub mod Run
 pub mod Exactly
+pub mod Sequences

@@ -1,12 +1,11 @@
 -- The loop's invariant: the first i places of either buffer are filled. Assumes nothing.
 use mathlib.Core.Path.{_≡_, ap, _∙_}
-use Prim.Native.Nat.{_-_, _≤_}
+use Prim.Native.Nat.{ℕ, _-_, _≤_}
 use native.Mathlib.Omega.{arith}
 use borrow.Author.Needs.{needs, sfits-of}
 use lib.ListN.{getD}
 use mir.Facts.{toZ-ofZ}
-use Rattle.gates.specs.declared.Told.{Told}
-use Rattle.gates.specs.Gates.{toldGate, toldOf}
+use Rattle.gates.specs.Gates.{toldOf, Values, valuesOf}
 use Rattle.gates.specs.Codes.{codesOf}
 use Rattle.gates.proofs.Rows.{Begun, begun-none, begun-turn, begun-all}
 use Rattle.gates.proofs.row_of_codes.Statement.{statement}
@@ -30,11 +29,12 @@ loop-again c =
     let l = t .before .before .before in
     let a = l .before .before .before .args in
     let codes = codesOf (a .bin) (a .bytes .now) in
-    let told : t .tell .result ≡ toldOf (a .c) (getD codes (l .loop .i) 0) = t .tell .ensures ∙ ap (toldOf (a .c)) (t .before .code-at .ensures) in (
+    let told : valuesOf (t .tell .result) ≡ valuesOf (toldOf (a .c) (getD codes (l .loop .i) 0)) =
+    t .tell .ensures ∙ ap (λ (code : ℕ). valuesOf (toldOf (a .c) code)) (t .before .code-at .ensures) in (
       omega arith,
       begun-turn (a .c) codes (a .kinds .now) (a .hundredths .now) _ _ (l .loop .inv .1) (omega arith) (omega arith) (omega arith)
-          (c .before .kind .ensures ∙ ap (λ (s : Told). toldGate (s .gate) .0) told)
-          (toZ-ofZ (sfits-of (c .struct-told .given .1 .1 .1 .0 .1)) ∙ ap (λ (s : Told). s .hundredths) told),
+          (c .before .kind .ensures ∙ ap (λ (v : Values). v .gate .0) told)
+          (toZ-ofZ (sfits-of (c .struct-told .given .1 .1 .1 .0 .1)) ∙ ap (λ (v : Values). v .hundredths) told),
     )
 
 returns : tie.Need-returns Inv-loop μ-loop

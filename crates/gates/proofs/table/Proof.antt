@@ -9,7 +9,7 @@ use lib.IntN.{pos}
 use lib.ListN.{length, getD, length-set}
 use lib.Seq.{getD-set-same, getD-set-other}
 use mir.Facts.{toZ-ofZ}
-use Rattle.gates.specs.declared.Told.{Told}
+use Rattle.gates.specs.Gates.{Values}
 use Rattle.gates.specs.Rows.{shownOf}
 use Rattle.gates.proofs.table.Statement.{statement}
 use Rattle.gates.proofs.table.Tie as tie
@@ -31,7 +31,7 @@ loop-again c =
       simp length-set (l .loop .inv .1),
       below-more _ _
           (λ j h. getD-set-other (l .loop .t) (l .loop .code) j _ (pos 0) (ne-of-lt h) ∙ l .loop .inv .2 j h)
-          (getD-set-same (l .loop .t) (l .loop .code) _ (pos 0) there ∙ toZ-ofZ (sfits-of (c .struct-told .given .1 .1 .1 .0 .1)) ∙ ap (λ (s : Told). s .hundredths) (c .before .tell .ensures)),
+          (getD-set-same (l .loop .t) (l .loop .code) _ (pos 0) there ∙ toZ-ofZ (sfits-of (c .struct-told .given .1 .1 .1 .0 .1)) ∙ ap (λ (v : Values). v .hundredths) (c .before .tell .ensures)),
     )
 
 returns : tie.Need-returns Inv-loop μ-loop
