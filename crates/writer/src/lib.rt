@@ -4,7 +4,7 @@ ghost use Rattle.writer.specs.Block.{generic, site, task, cut, radial, m
 ghost use Rattle.writer.specs.Put.{put, Puts};
 
 mod agree;
-pub mod on;
+mod on;
 pub mod order;
 
 use crate::agree::agrees;

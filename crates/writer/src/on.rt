@@ -19,7 +19,7 @@ use walk::due::Due;
 use walk::due::Walk;
 use walk::due::cut_place;
 
-pub fn generic_on(w: Walk, room: &mut [u8], r: Generic) -> Put
+pub(crate) fn generic_on(w: Walk, room: &mut [u8], r: Generic) -> Put
     ensures { λ p. ⌜ Puts (putOn (generic r) w (now (room .entry))) p (now (room .exit)) ⌝ }
 {
     let at = w.at;
@@ -34,7 +34,7 @@ pub fn generic_on(w: Walk, room: &mut [u8], r: Generic) -> Put
     }
 }
 
-pub fn site_on(w: Walk, room: &mut [u8], r: Site) -> Put
+pub(crate) fn site_on(w: Walk, room: &mut [u8], r: Site) -> Put
     ensures { λ p. ⌜ Puts (putOn (site r) w (now (room .entry))) p (now (room .exit)) ⌝ }
 {
     let at = w.at;
@@ -49,7 +49,7 @@ pub fn site_on(w: Walk, room: &mut [u8], r: Site) -> Put
     }
 }
 
-pub fn task_on(w: Walk, room: &mut [u8], r: Task) -> Put
+pub(crate) fn task_on(w: Walk, room: &mut [u8], r: Task) -> Put
     ensures { λ p. ⌜ Puts (putOn (task r) w (now (room .entry))) p (now (room .exit)) ⌝ }
 {
     let at = w.at;
@@ -64,7 +64,7 @@ pub fn task_on(w: Walk, room: &mut [u8], r: Task) -> Put
     }
 }
 
-pub fn cut_on(w: Walk, room: &mut [u8], r: Cut) -> Put
+pub(crate) fn cut_on(w: Walk, room: &mut [u8], r: Cut) -> Put
     ensures { λ p. ⌜ Puts (putOn (cut r) w (now (room .entry))) p (now (room .exit)) ⌝ }
 {
     let at = w.at;
@@ -79,7 +79,7 @@ pub fn cut_on(w: Walk, room: &mut [u8], r: Cut) -> Put
     }
 }
 
-pub fn radial_on(w: Walk, room: &mut [u8], r: Radial) -> Put
+pub(crate) fn radial_on(w: Walk, room: &mut [u8], r: Radial) -> Put
     ensures { λ p. ⌜ Puts (putOn (radial r) w (now (room .entry))) p (now (room .exit)) ⌝ }
 {
     let at = w.at;
@@ -97,7 +97,7 @@ pub fn radial_on(w: Walk, room: &mut [u8], r: Radial) -> Put
     }
 }
 
-pub fn moment_on(w: Walk, room: &mut [u8], r: Moment) -> Put
+pub(crate) fn moment_on(w: Walk, room: &mut [u8], r: Moment) -> Put
     ensures { λ p. ⌜ Puts (putOn (moment r) w (now (room .entry))) p (now (room .exit)) ⌝ }
 {
     let at = w.at;
@@ -112,7 +112,7 @@ pub fn moment_on(w: Walk, room: &mut [u8], r: Moment) -> Put
     }
 }
 
-pub fn data_on(w: Walk, room: &mut [u8], bytes: &[u8]) -> Put
+pub(crate) fn data_on(w: Walk, room: &mut [u8], bytes: &[u8]) -> Put
     ensures { λ p. ⌜ Puts (putOn («data» (now (bytes .entry))) w (now (room .entry))) p (now (room .exit)) ⌝ }
 {
     let at = w.at;
