@@ -5,4 +5,5 @@ pub mod Loops
 pub mod Known
 pub mod Masks
 pub mod Radials
+pub mod Rooms
 pub mod Run

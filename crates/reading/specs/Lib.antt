@@ -2,3 +2,4 @@ pub mod Step
 pub mod Reading
 pub mod Growth
 pub mod Tiling
+pub mod Take
