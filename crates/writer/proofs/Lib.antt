@@ -2,10 +2,12 @@ pub mod Again
 pub mod Agreeing
 pub mod Ahead
 pub mod Bytes
+pub mod Blocks
 pub mod Copying
 pub mod EachKind
 pub mod Places
 pub mod Putting
 pub mod Runs
+pub mod Refusing
 pub mod Same
 pub mod Told
