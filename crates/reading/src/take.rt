@@ -1,9 +1,9 @@
 // What the reader says of a record where it is due, with no file to find it in: for whoever makes the blocks and the walk.
 // Nothing is stored and no room is held. A walk of 2^63 bytes or more is no room's (document 01, number 37).
 ghost use mathlib.Core.Path.{_≡_};
-ghost use Prim.Native.Nat.{_+_, _<_, _^_};
-ghost use Rattle.reading.specs.Step.{takeGeneric, takeSite, takeTask, takeCut, takeRadial, takeMoment, takeData};
-ghost use Rattle.reading.specs.Take.{inRoom};
+ghost use Prim.Native.Nat.{_+_};
+ghost use Rattle.reading.specs.Step.{takeGeneric, takeSite, takeTask, takeCut, takeMoment, takeData};
+ghost use Rattle.reading.specs.Take.{inRoom, takeByMasks};
 use crate::step::Step;
 use crate::step::settle;
 use cut::Cut;
@@ -62,9 +62,9 @@ pub fn cut(r: Cut, w: Walk) -> Step
     settle(r.check(), at, after::cut(w, at + Cut::SIZE))
 }
 
-// With the cut that the radial belongs to.
-pub fn radial(r: Radial, c: Cut, w: Walk) -> Step
-    ensures { λ s. ⌜ s ≡ inRoom (w .at) (takeRadial r c w) ⌝ }
+// By the masks of the cut that the radial belongs to.
+pub fn radial(r: Radial, mask: u64, sizes: u64, w: Walk) -> Step
+    ensures { λ s. ⌜ s ≡ inRoom (w .at) (takeByMasks r mask sizes w) ⌝ }
 {
     let at = w.at;
     if MOST < at {
@@ -73,7 +73,7 @@ pub fn radial(r: Radial, c: Cut, w: Walk) -> Step
     settle(
         r.check(w.radial_due()),
         at,
-        after::radial(r, c.moments_mask, c.size_mask, w, at + Radial::SIZE),
+        after::radial(r, mask, sizes, w, at + Radial::SIZE),
     )
 }
 

@@ -15,7 +15,7 @@ use Rattle.reading.proofs.Growing.{keeps-took}
 use Rattle.writer.specs.Agree.{written}
 use Rattle.writer.specs.Block.{Block, bytesOf}
 use Rattle.writer.specs.Put.{put}
-use Rattle.writer.specs.Trips.{Fits, blockIn, blocksFrom, blocksIn, Run, fresh, more, SameBlocks}
+use Rattle.writer.specs.Trips.{blockIn, blocksFrom, blocksIn, Run, fresh, more, SameBlocks}
 use Rattle.writer.proofs.Again.{same-block}
 use Rattle.writer.proofs.Agreeing.{taken-when, keeps}
 use Rattle.writer.proofs.Ahead.{stays-after}

@@ -81,8 +81,10 @@ pub(crate) fn radial_on(w: Walk, room: &mut [u8], r: Radial) -> Put
     ensures { λ p. ⌜ Puts (putOn (radial r) w (now (room .entry))) p (now (room .exit)) ⌝ }
 {
     let at = w.at;
-    let c = Cut::read(room, cut_place(w.count.cut));
-    let says = take::radial(r, c, w);
+    let place = cut_place(w.count.cut);
+    let mask = le::u64_at(room, place + Cut::MOMENTS_MASK);
+    let sizes = le::u64_at(room, place + Cut::SIZE_MASK);
+    let says = take::radial(r, mask, sizes, w);
     match answer_to(w, room.len(), Due::Radial, says, true, Radial::SIZE) {
         Answer::Taken => {
             r.write(room, at);
