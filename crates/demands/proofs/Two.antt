@@ -23,7 +23,9 @@ use Rattle.ask.proofs.Sounding.{sound}
 use Rattle.index.proofs.Same.{right-only, right-when}
 use Rattle.writer.proofs.Again.{same-block}
 use Rattle.writer.proofs.Agreeing.{taken-when, keeps}
+use Rattle.writer.proofs.Blocks.{same-blocks}
 use Rattle.writer.proofs.Copying.{copy-of}
+use Rattle.writer.proofs.Refusing.{same-place}
 use Rattle.writer.proofs.Runs.{run-back}
 use Rattle.demands.specs.Two.{RefusedExactly, WholeRadials, Codes, Trips, Writing, IndexRight, DemandTwo}
 
@@ -83,6 +85,8 @@ writing =
       copies = λ f room h k. copy-of f room h k;
       again = same-block;
       runs = run-back;
+      blocks = same-blocks;
+      place = same-place;
     }
 
 index-right : IndexRight

@@ -37,7 +37,7 @@ use Rattle.ask.specs.Sound.{Sound}
 use Rattle.index.specs.Answer.{rightFor}
 use Rattle.index.specs.Index.{indexOf}
 use Rattle.writer.specs.Block.{Block}
-use Rattle.writer.specs.Trips.{Fits, TakenWhen, Keeps, CopyOf, SameBlock, Run, ReadBack}
+use Rattle.writer.specs.Trips.{Fits, TakenWhen, Keeps, CopyOf, SameBlock, Run, SameBlocks, SamePlace, ReadBack}
 
 -- a file is the bytes of a volume exactly when reading tells that it is complete, and of one volume alone (what a volume is:
 -- `volume/Volume`, by the place of each block in the structure, with no word of how a file is read); of any file, the whole
@@ -87,13 +87,16 @@ pub record Trips : Type 0 where
 
 -- writing takes a block exactly when state and room agree, reading would take it there, and the room suffices; a block
 -- taken keeps agreement. The blocks that reading accepts, put one after the other, give the same bytes; a block put and read
--- again is the same block; and what a fresh state and any blocks taken have written is complete, or open at a block's end
+-- again is the same block; what a fresh state and any blocks taken have written is complete, or open at a block's end, and
+-- reading it finds those blocks. A block that the table's checks refuse, the reader refuses there with that number and place
 pub record Writing : Type 0 where
   pub exactly : (b : Block) → Fits b → (w : Walk) (room : List ℕ) → TakenWhen b w room
   pub keeps : (b : Block) → Fits b → (w : Walk) (room : List ℕ) → Keeps b w room
   pub copies : (f room : List ℕ) → Bytes f → stop f .at ≤ length room → CopyOf f room
   pub again : (b : Block) → Fits b → (w : Walk) (room : List ℕ) → SameBlock b w room
-  pub runs : {w : Walk} {room : List ℕ} → Run w room → ReadBack w room
+  pub runs : {bs : List Block} {w : Walk} {room : List ℕ} → Run bs w room → ReadBack w room
+  pub blocks : {bs : List Block} {w : Walk} {room : List ℕ} → Run bs w room → SameBlocks bs w room
+  pub place : (b : Block) → Fits b → (w : Walk) (room : List ℕ) → SamePlace b w room
 
 -- an index is right for a file exactly when the file is complete and the bytes are its index
 pub record IndexRight : Type 0 where

@@ -5,6 +5,7 @@ pub mod Loops
 pub mod Known
 pub mod Masks
 pub mod Radials
+pub mod Rooms
 pub mod Run
 pub mod Exactly
 pub mod Sequences

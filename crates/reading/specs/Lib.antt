@@ -3,3 +3,4 @@ pub mod Reading
 pub mod Exactly
 pub mod Growth
 pub mod Tiling
+pub mod Take

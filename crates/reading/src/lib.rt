@@ -4,7 +4,8 @@ ghost use Prim.Native.Nat.{_≤_};
 ghost use lib.ListN.{length};
 ghost use Rattle.reading.specs.Reading.{Tells, fuel, last, stop, advanceOf, stretches, nth, bytesOf};
 
-mod step;
+pub mod step;
+pub mod take;
 mod whole;
 
 use crate::step::Step;

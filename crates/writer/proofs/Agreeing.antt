@@ -85,7 +85,7 @@ module _ (b : Block) (fits : Fits b) (w : Walk) (room : List ℕ) where
       let n = long b fits in
       length-append (written w room) (bytesOf b) ∙ omega arith
 
-  reads : Agrees w room → w .due ≡ kindOf b → fitsOf b w ≡ true → stepOf (written w room ++ bytesOf b) w ≡ saysOf b room w
+  pub reads : Agrees w room → w .due ≡ kindOf b → fitsOf b w ≡ true → stepOf (written w room ++ bytesOf b) w ≡ saysOf b room w
   reads a k f =
       let p = written w room ++ bytesOf b in
       let n = long b fits in

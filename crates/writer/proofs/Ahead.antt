@@ -58,7 +58,7 @@ some-on due.Data p w m e =
 some-on due.Nothing p w m e = absurd (let z : _≡_ {A = ℕ} 0 1 = cc in omega arith)
 
 -- after a block that ends where the bytes end, no block is taken
-stays-after : (f : List ℕ) (w m : Walk) → stepOf f w ≡ Took m → m .at ≡ length f → stays (stepOf f m)
+pub stays-after : (f : List ℕ) (w m : Walk) → stepOf f w ≡ Took m → m .at ≡ length f → stays (stepOf f m)
 unfolding stays Some
 stays-after f w m e l = go (view f m)
   where

@@ -1,11 +1,13 @@
 pub mod Again
 pub mod Agreeing
 pub mod Ahead
+pub mod Blocks
 pub mod Bytes
 pub mod Copying
 pub mod EachKind
 pub mod Places
 pub mod Putting
+pub mod Refusing
 pub mod Runs
 pub mod Same
 pub mod Told

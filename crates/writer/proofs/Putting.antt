@@ -1,5 +1,5 @@
 -- What an answer says of the tests before it, and what the writer's functions promise by it. Assumes nothing.
-use Prim.Native.Nat.{ℕ, _+_, _≤_}
+use Prim.Native.Nat.{ℕ, _+_, _≤_, _<_, _^_}
 use native.Mathlib.Omega.{arith}
 use mathlib.Core.Path.{_≡_, refl, sym, ap, _∙_}
 use mathlib.Core.Bool.{Bool, true, false, cond}
@@ -9,14 +9,13 @@ use lib.ListN.{length}
 use borrow.Author.Tests.{le-leb, leb-true, le-ltb, ltb-false}
 use Rattle.le.specs.Le.{stored}
 use Rattle.le.proofs.Laws.{stored-in}
-use Rattle.rules.specs.declared.check.Check.{Check}
-use Rattle.rules.specs.declared.check.Check.the-variants.{Fine, Broken}
 use Rattle.walk.specs.declared.due.Due.{Due}
 use Rattle.walk.specs.declared.due.Walk.{Walk}
 use Rattle.reading.specs.declared.step.Step.{Step}
 use Rattle.reading.specs.declared.step.Step.the-variants as step
 use Rattle.walk.specs.Due.{isEnd}
-use Rattle.reading.specs.Step.{settle}
+use Rattle.reading.specs.Take.{inRoom}
+use Rattle.reading.proofs.Rooms.{fits-room}
 use Rattle.writer.specs.declared.order.Answer.{Answer}
 use Rattle.writer.specs.declared.order.Answer.the-variants.{Taken, Refused}
 use Rattle.writer.specs.declared.order.Put.{Put}
@@ -85,46 +84,42 @@ passes kind says fits size w room h =
 pub has-passed : (kind : Due) (says : Step) (fits : Bool) (size : ℕ) (w : Walk) (room : ℕ) {a : Answer} → a ≡ answerTo kind says fits size w room → a ≡ Taken → Passed kind says fits size w room
 has-passed kind says fits size w room e t = passed kind says fits size w room (sym e ∙ t)
 
--- ---- rules that hold, or one that is broken: what the answer is does not hang on the walk after it
+-- ---- what is said with no room behind it: the answer is the same in any room, which has fewer than 2^63 bytes
 
-pub answer-next : (v : Check) (at : ℕ) (x y : Walk) (kind : Due) (fits : Bool) (size : ℕ) (w : Walk) (room : ℕ) → answerTo kind (settle v at x) fits size w room ≡ answerTo kind (settle v at y) fits size w room
-unfolding answerTo checked settle
-answer-next Fine at x y kind fits size w room = refl
-answer-next (Broken n p) at x y kind fits size w room = refl
+module _ (b : Block) (w : Walk) (room : List ℕ) {s : Step} (said : s ≡ inRoom (w .at) (saysOf b room w)) (short : length room < 2 ^ 63) where
+  said-is : w .at ≤ length room → s ≡ saysOf b room w
+  said-is h = said ∙ sym (fits-room (w .at) (saysOf b room w) (omega arith))
 
-next-is : (v : Check) (at : ℕ) (n w : Walk) → checked (settle v at n) Taken ≡ Taken → nextOf (settle v at n) w ≡ n
-unfolding checked settle nextOf
-next-is Fine at n w e = refl
-next-is (Broken a b) at n w e = absurd (two a (at + b) e)
+  pub answer-in : {a : Answer} → a ≡ answerTo (kindOf b) s (fitsOf b w) (lengthOf b) w (length room)
+      → a ≡ answerTo (kindOf b) (saysOf b room w) (fitsOf b w) (lengthOf b) w (length room)
+  unfolding answerTo
+  answer-in e = e ∙ go (ltb (length room) (w .at)) refl
+    where
+      go : (t : Bool) → ltb (length room) (w .at) ≡ t
+          → answerTo (kindOf b) s (fitsOf b w) (lengthOf b) w (length room) ≡ answerTo (kindOf b) (saysOf b room w) (fitsOf b w) (lengthOf b) w (length room)
+      go true q = rw q
+      go false q = ap (λ (x : Step). answerTo (kindOf b) x (fitsOf b w) (lengthOf b) w (length room)) (said-is (ltb-false (length room) (w .at) q))
+
+  pub next-in : {a : Answer} {n : Walk} → a ≡ answerTo (kindOf b) s (fitsOf b w) (lengthOf b) w (length room) → a ≡ Taken → n ≡ nextOf s w
+      → n ≡ nextOf (saysOf b room w) w
+  next-in e t q = q ∙ ap (λ (x : Step). nextOf x w) (said-is (has-passed _ _ _ _ w _ e t .within))
 
 -- ---- what a function that answers so has done
 
-module _ (b : Block) (w n : Walk) (room : List ℕ) (v : Check) (says : saysOf b room w ≡ settle v (w .at) n) where
-  answer-is : {a : Answer} → a ≡ answerTo (kindOf b) (settle v (w .at) w) (fitsOf b w) (lengthOf b) w (length room)
-      → answerTo (kindOf b) (saysOf b room w) (fitsOf b w) (lengthOf b) w (length room) ≡ a
-  answer-is e = ap (λ (s : Step). answerTo (kindOf b) s (fitsOf b w) (lengthOf b) w (length room)) says ∙ answer-next v (w .at) n w _ _ _ w _ ∙ sym e
-
-  pub puts-taken : {held : List ℕ} {a : Answer} {p : Put}
-      → a ≡ answerTo (kindOf b) (settle v (w .at) w) (fitsOf b w) (lengthOf b) w (length room) → a ≡ Taken
-      → held ≡ stored (lengthOf b) room (w .at) (bytesOf b) → p ≡ record { answer = Taken; walk = n } → Puts (putOn b w room) p held
+module _ (b : Block) (w : Walk) (room : List ℕ) {a : Answer} (answered : a ≡ answerTo (kindOf b) (saysOf b room w) (fitsOf b w) (lengthOf b) w (length room)) where
+  pub puts-taken : {held : List ℕ} {n : Walk} {p : Put} → a ≡ Taken → held ≡ stored (lengthOf b) room (w .at) (bytesOf b)
+      → n ≡ nextOf (saysOf b room w) w → p ≡ record { answer = Taken; walk = n } → Puts (putOn b w room) p held
   unfolding putOn outcome
-  puts-taken {held} {a} {p} e t h q =
-      let u = answer-is e ∙ t in
-      let g = passed _ _ _ _ w _ u in
-      let k : checked (settle v (w .at) n) Taken ≡ Taken = rw says at (g .rules) in
-      let m : nextOf (saysOf b room w) w ≡ n = ap (λ (s : Step). nextOf s w) says ∙ next-is v (w .at) n w k in
-      rw (u, q) (record {
+  puts-taken t h m q =
+      rw (sym answered ∙ t, q) (record {
         answer = refl;
-        walk = sym m;
-        room = h ∙ stored-in (lengthOf b) room (w .at) (bytesOf b) (g .suffices);
+        walk = m;
+        room = h ∙ stored-in (lengthOf b) room (w .at) (bytesOf b) (has-passed _ _ _ _ w _ answered t .suffices);
       })
 
-  pub puts-refused : {a : Answer} {p : Put} (number place : ℕ)
-      → a ≡ answerTo (kindOf b) (settle v (w .at) w) (fitsOf b w) (lengthOf b) w (length room) → a ≡ Refused number place
-      → p ≡ record { answer = Refused number place; walk = w } → Puts (putOn b w room) p room
+  pub puts-refused : {p : Put} (number place : ℕ) → a ≡ Refused number place → p ≡ record { answer = Refused number place; walk = w } → Puts (putOn b w room) p room
   unfolding putOn outcome
-  puts-refused {a} {p} number place e t q =
-      rw (answer-is e ∙ t, q) (record { answer = refl; walk = refl; room = refl })
+  puts-refused number place t q = rw (sym answered ∙ t, q) (record { answer = refl; walk = refl; room = refl })
 
 module _ (b : Block) (w : Walk) (room : List ℕ) where
   pub puts-agreed : {held : List ℕ} {p : Put} {t : Bool} → t ≡ agrees w room → t ≡ true → Puts (putOn b w room) p held → Puts (put b w room) p held

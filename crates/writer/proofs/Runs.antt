@@ -11,24 +11,25 @@ use Rattle.walk.specs.declared.due.Due.the-variants as due
 use Rattle.walk.specs.declared.due.Walk.{Walk}
 use Rattle.walk.specs.Due.{sizeAt, isEnd, atStart}
 use Rattle.reading.specs.Reading.{stop, fuel, endingTold}
-use Rattle.reading.specs.Step.{blockAt, takeData}
+use Rattle.reading.specs.Step.{blockAt, takeData, stepOf}
 use Rattle.reading.proofs.Run.{stays, View, here, short, over, done, view, is-here, is-short, is-done, run-stays, last-off, enough}
 use Rattle.writer.specs.Agree.{written, Agrees}
+use Rattle.writer.specs.Block.{Block}
 use Rattle.writer.specs.Trips.{Run, fresh, more, Ends, isComplete, isOpen, ReadBack}
 use Rattle.writer.proofs.Agreeing.{keeps}
 
+-- no block is taken where there are no bytes
+pub nothing-read : stays (stepOf [] atStart)
+unfolding stays isEnd sizeAt
+nothing-read = subst⁻¹ stays (is-short [] atStart refl (omega arith)) tt
+
 -- a fresh state agrees with every room
 pub start : (room : List ℕ) → Agrees atStart room
-unfolding stays isEnd sizeAt
-start room =
-    record {
-      within = omega arith;
-      stops = run-stays (λ v. v) (λ v n r. r) (fuel []) [] atStart (subst⁻¹ stays (is-short [] atStart refl (omega arith)) tt);
-    }
+start room = record { within = omega arith; stops = run-stays (λ v. v) (λ v n r. r) (fuel []) [] atStart nothing-read }
 
-pub agrees-along : {w : Walk} {room : List ℕ} → Run w room → Agrees w room
+pub agrees-along : {bs : List Block} {w : Walk} {room : List ℕ} → Run bs w room → Agrees w room
 agrees-along (fresh room) = start room
-agrees-along (more {w} {room} b fits r t) = keeps b fits w room .agree t
+agrees-along (more {bs} {w} {room} b fits r t) = keeps b fits w room .agree t
 
 -- a block with no byte is data, which the reader takes
 empty-goes : (d : Due) (p : List ℕ) (w : Walk) → isEnd d ≡ false → sizeAt d (w .rest .length) ≤ 0 → stays (blockAt d p w) → ⊥
@@ -58,5 +59,5 @@ read-back w room a =
     let all = ap (λ (x : Walk). x .at) (a .stops) ∙ sym (length-take-le (w .at) room (a .within)) in
     record { agree = a; all = all; ends = ends-at (written w room) all }
 
-pub run-back : {w : Walk} {room : List ℕ} → Run w room → ReadBack w room
-run-back {w} {room} r = read-back w room (agrees-along r)
+pub run-back : {bs : List Block} {w : Walk} {room : List ℕ} → Run bs w room → ReadBack w room
+run-back {bs} {w} {room} r = read-back w room (agrees-along r)

@@ -4,7 +4,7 @@ use Prim.Native.Nat.{ℕ, _+_, _≤_}
 use mathlib.Core.List.{List, [], _∷_, _++_}
 use mathlib.Core.Path.{_≡_}
 use lib.ListN.{length, take}
-use Rattle.le.specs.Le.{Bytes, part, patch}
+use Rattle.le.specs.Le.{Bytes, part, patch, run}
 use Rattle.cut.specs.Cut.{cutAt, CutFits}
 use Rattle.generic.specs.Generic.{genericAt, GenericFits}
 use Rattle.moment.specs.Moment.{momentAt, MomentFits}
@@ -16,11 +16,11 @@ use Rattle.walk.specs.declared.due.Due.the-variants as due
 use Rattle.walk.specs.declared.due.Walk.{Walk}
 use Rattle.reading.specs.declared.step.Step.the-variants as step
 use Rattle.walk.specs.Due.{sizeOf, atStart}
-use Rattle.reading.specs.Reading.{stop, told}
+use Rattle.reading.specs.Reading.{walkOn, fuel, stop, told}
 use Rattle.reading.specs.Step.{stepOf}
 use Rattle.writer.specs.declared.order.Answer.the-variants.{Taken}
 use Rattle.writer.specs.Agree.{written, Agrees}
-use Rattle.writer.specs.Block.{Block, generic, site, task, cut, radial, moment, «data», kindOf, lengthOf, bytesOf}
+use Rattle.writer.specs.Block.{Block, generic, site, task, cut, radial, moment, «data», kindOf, saysOf, lengthOf, bytesOf}
 use Rattle.writer.specs.Put.{Outcome, putOn, put}
 
 -- a block is one that its type holds: each number in its range, each array of its length ("Blocks")
@@ -101,10 +101,29 @@ pub record CopyOf (f room : List ℕ) : Type 0 where
 abbrev pub SameBlock : Block → Walk → List ℕ → Type 0
 SameBlock b w room = put b w room .answer ≡ Taken → blockIn (w .due) (put b w room .room) w ≡ b
 
--- the states and rooms that a fresh state and any blocks taken after it lead to ("Writing")
-pub data Run : Walk → List ℕ → Type 0 where
-  fresh : (room : List ℕ) → Run atStart room
-  more : {w : Walk} {room : List ℕ} (b : Block) → Fits b → Run w room → put b w room .answer ≡ Taken → Run (put b w room .walk) (put b w room .room)
+-- the blocks that reading f takes, from a walk on and from the start on, each as it stands there ("What reading tells")
+abbrev pub blocksFrom : ℕ → List ℕ → Walk → List Block
+blocksFrom k f w = walkOn (λ v. []) (λ v n r. blockIn (v .due) f v ∷ r) k f w
+
+abbrev pub blocksIn : List ℕ → List Block
+blocksIn f = blocksFrom (fuel f) f atStart
+
+-- the states and rooms that a fresh state and any blocks taken after it lead to, with those blocks in their order ("Writing")
+pub data Run : List Block → Walk → List ℕ → Type 0 where
+  fresh : (room : List ℕ) → Run [] atStart room
+  more : {bs : List Block} {w : Walk} {room : List ℕ} (b : Block) → Fits b → Run bs w room → put b w room .answer ≡ Taken
+      → Run (bs ++ b ∷ []) (put b w room .walk) (put b w room .room)
+
+-- what is written is the bytes of those blocks, and reading it finds those blocks (demand 2: written and read again)
+pub record SameBlocks (bs : List Block) (w : Walk) (room : List ℕ) : Type 0 where
+  pub bytes : written w room ≡ run bytesOf bs
+  pub blocks : blocksIn (written w room) ≡ bs
+
+-- a block that the table's checks refuse is refused by reading what is written, followed by that block, with this number and
+-- place ("Writing": the place is that of the reader)
+abbrev pub SamePlace : Block → Walk → List ℕ → Type 0
+SamePlace b w room =
+    Agrees w room → w .due ≡ kindOf b → (n p : ℕ) → saysOf b room w ≡ step.Refused n p → told (written w room ++ bytesOf b) ≡ 2 ∷ n ∷ p ∷ []
 
 -- a file is complete or open ("What reading tells")
 pub data Ends (f : List ℕ) : Type 0 where

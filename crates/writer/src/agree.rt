@@ -1,11 +1,9 @@
 // Whether a state and a room agree: whether reading what the state counts as written stops at that state.
 ghost use mathlib.Core.Path.{_≡_};
 ghost use mathlib.Core.Bool.{_&&_};
-ghost use Rattle.reading.specs.Reading.{stop};
 ghost use Rattle.writer.specs.Agree.{samePlan, sameCount, samePresent, sameRest, sameWalk, agrees as agreesOf};
 use crate::order::rank;
-use reading::Onward;
-use reading::advance;
+use crate::state_of;
 use walk::due::Count;
 use walk::due::Plan;
 use walk::due::Present;
@@ -62,23 +60,6 @@ fn same_walk(a: Walk, b: Walk) -> bool
     both(place, both(settled, radial))
 }
 
-// The walk at which reading stops.
-fn stop_of(written: &[u8]) -> Walk
-    ensures { λ r. ⌜ r ≡ stop (now (written .entry)) ⌝ }
-{
-    let mut w = Walk::begin();
-    loop {
-        match advance(written, w) {
-            Onward::Whole(_, n) => {
-                w = n;
-            }
-            Onward::Stopped(v) => {
-                return v;
-            }
-        }
-    }
-}
-
 pub(crate) fn agrees(w: Walk, room: &[u8]) -> bool
     ensures { λ r. ⌜ r ≡ agreesOf w (now (room .entry)) ⌝ }
 {
@@ -86,6 +67,6 @@ pub(crate) fn agrees(w: Walk, room: &[u8]) -> bool
     if room.len() < at {
         return false;
     }
-    let read = stop_of(&room[..at]);
+    let read = state_of(&room[..at]);
     same_walk(read, w)
 }

@@ -1,10 +1,13 @@
 // The writer (document 01, "Writing"): one block at a time, onto what a room holds already. Its state is the walk that
 // reading what is written stops at. Each function below believes neither state nor room: it reads what is written first.
+// A state that was lost is found again from the written bytes, by `state_of`.
+ghost use mathlib.Core.Path.{_≡_};
+ghost use Rattle.reading.specs.Reading.{stop};
 ghost use Rattle.writer.specs.Block.{generic, site, task, cut, radial, moment, «data»};
 ghost use Rattle.writer.specs.Put.{put, Puts};
 
 mod agree;
-pub mod on;
+mod on;
 pub mod order;
 
 use crate::agree::agrees;
@@ -21,9 +24,28 @@ use cut::Cut;
 use generic::Generic;
 use moment::Moment;
 use radial::Radial;
+use reading::Onward;
+use reading::advance;
 use site::Site;
 use task::Task;
 use walk::due::Walk;
+
+// The state that goes with what is written: the walk at which reading it stops.
+pub fn state_of(written: &[u8]) -> Walk
+    ensures { λ r. ⌜ r ≡ stop (now (written .entry)) ⌝ }
+{
+    let mut w = Walk::begin();
+    loop {
+        match advance(written, w) {
+            Onward::Whole(_, n) => {
+                w = n;
+            }
+            Onward::Stopped(v) => {
+                return v;
+            }
+        }
+    }
+}
 
 pub fn put_generic(w: Walk, room: &mut [u8], r: Generic) -> Put
     ensures { λ p. ⌜ Puts (put (generic r) w (now (room .entry))) p (now (room .exit)) ⌝ }

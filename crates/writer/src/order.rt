@@ -1,11 +1,9 @@
 // What the writer answers, and the order of its refusals (document 01, "Writing").
 ghost use mathlib.Core.Path.{_≡_};
-ghost use Prim.Native.Nat.{_<_, _^_};
-ghost use Rattle.reading.specs.Step.{settle};
 ghost use Rattle.writer.specs.declared.order.Answer.the-variants.{Taken, Refused};
 ghost use Rattle.writer.specs.Agree.{rankOf};
-ghost use Rattle.writer.specs.Put.{lastTests, answerTo};
-use rules::check::Check;
+ghost use Rattle.writer.specs.Put.{lastTests, checked as checkedOf, answerTo, nextOf};
+use reading::step::Step;
 use walk::due::Due;
 use walk::due::Walk;
 use walk::due::is_end;
@@ -71,17 +69,29 @@ fn last_tests(fits: bool, at: usize, size: usize, len: usize) -> Answer
     Answer::Refused(35, at)
 }
 
-// The answer to a block, by its kind, its rules, whether it has its header's length, and its size; len is the room's.
+// What the reader refuses is refused with its number and place.
+fn checked(says: Step, last: Answer) -> Answer
+    ensures { λ r. ⌜ r ≡ checkedOf says last ⌝ }
+{
+    match says {
+        Step::Took(_) => last,
+        Step::Refused(n, p) => Answer::Refused(n, p),
+        Step::Open(_) => last,
+        Step::Complete => last,
+    }
+}
+
+// The answer to a block, by its kind, what the reader says of it, whether it has its header's length, and its size; len is
+// the room's.
 pub(crate) fn answer_to(
     w: Walk,
     len: usize,
     kind: Due,
-    check: Check,
+    says: Step,
     fits: bool,
     size: usize,
 ) -> Answer
-    requires { ⌜ len < 2 ^ 63 ⌝ }
-    ensures { λ r. ⌜ r ≡ answerTo kind (settle check (w .at) w) fits size w len ⌝ }
+    ensures { λ r. ⌜ r ≡ answerTo kind says fits size w len ⌝ }
 {
     let at = w.at;
     let due = w.due;
@@ -94,8 +104,17 @@ pub(crate) fn answer_to(
     if rank(due) != rank(kind) {
         return Answer::Refused(34, at);
     }
-    match check {
-        Check::Fine => last_tests(fits, at, size, len),
-        Check::Broken(n, p) => Answer::Refused(n, at + (p as usize)),
+    checked(says, last_tests(fits, at, size, len))
+}
+
+// The state after a block that is taken.
+pub(crate) fn next_of(says: Step, w: Walk) -> Walk
+    ensures { λ r. ⌜ r ≡ nextOf says w ⌝ }
+{
+    match says {
+        Step::Took(n) => n,
+        Step::Refused(_, _) => w,
+        Step::Open(_) => w,
+        Step::Complete => w,
     }
 }

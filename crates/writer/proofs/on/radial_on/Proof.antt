@@ -1,54 +1,58 @@
-use Prim.Native.Nat.{_+_}
-use mathlib.Core.Path.{sym}
+use Prim.Native.Nat.{ℕ, _+_}
+use mathlib.Core.Path.{_≡_, ap, _∙_}
+use mathlib.Core.List.{List}
 use native.Mathlib.Omega.{arith}
 use borrow.Author.Needs.{needs}
-use Rattle.walk.specs.After.{afterRadial}
+use Rattle.le.specs.Le.{le}
+use Rattle.radial.specs.declared.Radial.{Radial}
+use Rattle.walk.specs.declared.due.Walk.{Walk}
+use Rattle.walk.specs.Due.{cutPlace}
+use Rattle.reading.specs.declared.step.Step.{Step}
 use Rattle.reading.specs.Step.{takeRadial, cutIn}
+use Rattle.reading.specs.Take.{inRoom, takeByMasks}
 use Rattle.reading.proofs.Masks.{by-masks}
 use Rattle.writer.specs.Block.{radial}
-use Rattle.writer.proofs.Putting.{has-passed, puts-taken, puts-refused}
+use Rattle.writer.proofs.Putting.{answer-in, next-in, puts-taken, puts-refused}
 use Rattle.writer.proofs.on.radial_on.Statement.{statement}
 use Rattle.writer.proofs.on.radial_on.Tie as tie
 
-add-radial : tie.Need-add-radial
-add-radial c =
-    let told = c .before .before .before .before in
-    let answered = told .before .before in
-    let start = answered .before .before .before .before .before .before .before .before .before in
-    let h = has-passed _ _ _ _ (start .args .w) _ (answered .answer-to .ensures) (told .enum-told .given .1) .suffices in
-    omega (arith, start)
+-- the masks that are read are those of the radial's cut
+in-cut : (r : Radial) (w : Walk) (room : List ℕ) {s : Step} {mask sizes place : ℕ} → s ≡ inRoom (w .at) (takeByMasks r mask sizes w)
+    → mask ≡ le 8 room (place + 84) → sizes ≡ le 8 room (place + 92) → place ≡ cutPlace (w .count .cut) → s ≡ inRoom (w .at) (takeRadial r (cutIn room w) w)
+in-cut r w room e m z k = e ∙ ap (inRoom (w .at)) (rw (m, z, k) (by-masks room w r))
 
 returns : tie.Need-returns
 returns c =
     let written = c .before .before .before .before in
     let told = written .before .before in
     let answered = told .before .before in
-    let checked = answered .before in
-    let masks = checked .before .before in
+    let said = answered .before in
+    let masks = said .before in
     let placed = masks .before .before .before .before in
-    let a = placed .before .before .args in
+    let start = placed .before .before in
+    let a = start .args in
     let room = a .room .now in
-    puts-taken (radial (a .r)) (a .w) (c .before .radial .result) room (checked .check .result)
-    (rw (checked .check .ensures, checked .before .radial-due .ensures, c .before .radial .ensures, masks .u64-at2 .ensures, masks .before .before .u64-at .ensures, placed .cut-place .ensures)
-    (sym (by-masks room (a .w) (a .r))))
-    (answered .answer-to .ensures) (told .enum-told .given .1) (written .write .ensures) (c .taken .ensures)
+    let s = in-cut (a .r) (a .w) room (said .radial .ensures) (masks .before .before .u64-at .ensures) (masks .u64-at2 .ensures) (placed .cut-place .ensures) in
+    let e = answered .answer-to .ensures in
+    let t = told .enum-told .given .1 in
+    puts-taken (radial (a .r)) (a .w) room (answer-in (radial (a .r)) (a .w) room s (omega (arith, start)) e) t (written .write .ensures)
+    (next-in (radial (a .r)) (a .w) room s (omega (arith, start)) e t (c .before .next-of .ensures)) (c .taken .ensures)
 
 returns-2 : tie.Need-returns-2
-unfolding takeRadial
 returns-2 c =
     let known = c .before .before in
     let answered = known .before .before in
-    let checked = answered .before in
-    let a = checked .before .before .before .before .before .before .before .before .args in
-    let cut = cutIn (a .room .now) (a .w) in
-    puts-refused (radial (a .r)) (a .w) (afterRadial (a .r) (cut .«moments_mask») (cut .«size_mask») (a .w) (a .w .at + 64)) (a .room .now) (checked .check .result)
-    (rw (checked .check .ensures, checked .before .radial-due .ensures))
-    _ _ (answered .answer-to .ensures) (known .n .given .1) (c .refused .ensures)
+    let said = answered .before in
+    let masks = said .before in
+    let placed = masks .before .before .before .before in
+    let start = placed .before .before in
+    let a = start .args in
+    let room = a .room .now in
+    let s = in-cut (a .r) (a .w) room (said .radial .ensures) (masks .before .before .u64-at .ensures) (masks .u64-at2 .ensures) (placed .cut-place .ensures) in
+    puts-refused (radial (a .r)) (a .w) room (answer-in (radial (a .r)) (a .w) room s (omega (arith, start)) (answered .answer-to .ensures))
+    _ _ (known .n .given .1) (c .refused .ensures)
 
 pub radial-on-spec : {M : Type 1} → statement M
 radial-on-spec =
     tie.close
-    (tie.spec
-    (λ c κs. search needs) (λ c. search needs) (λ c κs. search needs) (λ c. search needs) (λ c κs. search needs) (λ c κs. search needs)
-    (λ c κs. search needs) (λ c κs. search needs) (λ c. search needs) (λ c κs. search needs) add-radial (λ c κs. search needs)
-    (λ c κs. search needs) (λ c. search needs) (λ c κs. search needs) (λ c. search needs) returns (λ c. search needs) returns-2)
+    (tie.spec (λ c κs. search needs) (λ c. search needs) (λ c κs. search needs) (λ c. search needs) (λ c κs. search needs) (λ c κs. search needs) (λ c κs. search needs) (λ c. search needs) (λ c κs. search needs) (λ c κs. search needs) (λ c κs. search needs) (λ c. search needs) (λ c κs. search needs) (λ c. search needs) returns (λ c. search needs) returns-2)

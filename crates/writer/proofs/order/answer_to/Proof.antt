@@ -1,7 +1,6 @@
 use borrow.Author.Needs.{needs}
 use borrow.Author.Tests.{lt-ltb, le-ltb, eq-eqb, ne-eqb}
-use Rattle.reading.specs.Step.{settle}
-use Rattle.writer.specs.Put.{checked, answerTo}
+use Rattle.writer.specs.Put.{answerTo}
 use Rattle.writer.proofs.order.answer_to.Statement.{statement}
 use Rattle.writer.proofs.order.answer_to.Tie as tie
 
@@ -20,23 +19,15 @@ returns-3 c =
     rw (le-ltb _ _ (i .before .before .if1 .left), ← i .before .is-end .ensures, i .if2 .left, ← c .before .before .rank .ensures, ← c .before .rank2 .ensures, ne-eqb _ _ (c .if3 .taken))
 
 returns-4 : tie.Need-returns-4
-unfolding answerTo checked settle
+unfolding answerTo
 returns-4 c =
-    let k = c .before .before .before in
+    let k = c .before .before in
     let i = k .before .before .before in
-    rw (le-ltb _ _ (i .before .before .if1 .left), ← i .before .is-end .ensures, i .if2 .left, ← k .before .before .rank .ensures, ← k .before .rank2 .ensures, eq-eqb _ _ (k .if3 .left), c .before .enum-told .given .1)
-    (c .last-tests .ensures)
-
-returns-5 : tie.Need-returns-5
-unfolding answerTo checked settle
-returns-5 c =
-    let k = c .before .before .before in
-    let i = k .before .before .before in
-    rw (le-ltb _ _ (i .before .before .if1 .left), ← i .before .is-end .ensures, i .if2 .left, ← k .before .before .rank .ensures, ← k .before .rank2 .ensures, eq-eqb _ _ (k .if3 .left), c .before .check .given .1)
+    rw (le-ltb _ _ (i .before .before .if1 .left), ← i .before .is-end .ensures, i .if2 .left, ← k .before .before .rank .ensures, ← k .before .rank2 .ensures, eq-eqb _ _ (k .if3 .left), ← c .before .last-tests .ensures)
+    (c .checked .ensures)
 
 pub answer-to-spec : {M : Type 1} → statement M
 answer-to-spec =
     tie.close
     (tie.spec
-    returns (λ c κs. search needs) returns-2 (λ c κs. search needs) (λ c κs. search needs) returns-3 (λ c. search needs) (λ c κs. search needs)
-    (λ c. search needs) (λ c. search needs) (λ c. search needs) returns-4 returns-5)
+    returns (λ c κs. search needs) returns-2 (λ c κs. search needs) (λ c κs. search needs) returns-3 (λ c κs. search needs) (λ c κs. search needs) returns-4)

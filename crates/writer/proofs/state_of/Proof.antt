@@ -4,8 +4,8 @@ use borrow.Author.Needs.{needs}
 use Rattle.reading.specs.Reading.{stop, last, fuel}
 use Rattle.reading.proofs.Run.{left}
 use Rattle.reading.proofs.Loops.{further, stopped}
-use Rattle.writer.proofs.agree.stop_of.Statement.{statement}
-use Rattle.writer.proofs.agree.stop_of.Tie as tie
+use Rattle.writer.proofs.state_of.Statement.{statement}
+use Rattle.writer.proofs.state_of.Tie as tie
 
 abbrev Inv-loop : tie.InvT-loop
 Inv-loop written w₀ w = stop written ≡ last (fuel written) written w
@@ -32,7 +32,7 @@ returns c =
     let l = c .before .before .before .before in
     sym (l .loop .inv ∙ stopped (l .before .before .before .args .written .now) (l .loop .w) _ (sym (c .before .before .before .advance .ensures) ∙ c .before .v .given .1))
 
-pub stop-of-spec : {M : Type 1} → statement M
-stop-of-spec =
+pub state-of-spec : {M : Type 1} → statement M
+state-of-spec =
     tie.close
     (tie.spec Inv-loop μ-loop (λ c κs. search needs) loop-holds (λ c κs. search needs) (λ c. search needs) loop-less loop-again (λ c. search needs) returns)

@@ -1,0 +1,16 @@
+use native.Mathlib.Omega.{arith}
+use borrow.Author.Needs.{needs}
+use Rattle.reading.specs.Step.{takeTask}
+use Rattle.reading.proofs.Rooms.{fits-room, past-room}
+use Rattle.reading.proofs.take.task.Statement.{statement}
+use Rattle.reading.proofs.take.task.Tie as tie
+
+returns : tie.Need-returns
+returns c = past-room _ _ (omega arith)
+
+returns-2 : tie.Need-returns-2
+unfolding takeTask
+returns-2 c = rw (c .settle .ensures, c .before .task .ensures, c .before .before .check .ensures) (fits-room _ _ (omega arith))
+
+pub task-spec : {M : Type 1} → statement M
+task-spec = tie.close (tie.spec returns (λ c κs. search needs) (λ c. search needs) (λ c κs. search needs) (λ c κs. search needs) returns-2)
