@@ -1,5 +1,5 @@
 -- What an accepted radial header says of its place in the volume, and that it announces a moment. Assumes nothing.
-use Prim.Native.Nat.{ℕ, _+_, _≤_}
+use Prim.Native.Nat.{_+_, _≤_}
 use mathlib.Core.Path.{_≡_}
 use Rattle.le.proofs.Tests.{both}
 use Rattle.rules.specs.Check.{Hold}

@@ -44,9 +44,12 @@ takeTask r w = settle (taskCheck r) (w .at) (afterTask (r .«scan_type») (r .«
 unfoldable pub takeCut : Cut → Walk → Step
 takeCut r w = settle (cutCheck r) (w .at) (afterCut w (w .at + cutSize))
 
+-- a radial asks of its cut the two masks alone ("Masks")
+abbrev pub takeByMasks : Radial → ℕ → ℕ → Walk → Step
+takeByMasks r mask sizes w = settle (radialCheck r (radialDue w)) (w .at) (afterRadial r mask sizes w (w .at + radialSize))
+
 unfoldable pub takeRadial : Radial → Cut → Walk → Step
-takeRadial r c w =
-    settle (radialCheck r (radialDue w)) (w .at) (afterRadial r (c .«moments_mask») (c .«size_mask») w (w .at + radialSize))
+takeRadial r c w = takeByMasks r (c .«moments_mask») (c .«size_mask») w
 
 unfoldable pub takeMoment : Moment → Walk → Step
 takeMoment r w = settle (momentCheck r (momentDue w)) (w .at) (afterMoment r w (w .at + momentSize))

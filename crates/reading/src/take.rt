@@ -2,8 +2,8 @@
 // Nothing is stored and no room is held. A walk of 2^63 bytes or more is no room's (document 01, number 37).
 ghost use mathlib.Core.Path.{_≡_};
 ghost use Prim.Native.Nat.{_+_};
-ghost use Rattle.reading.specs.Step.{takeGeneric, takeSite, takeTask, takeCut, takeMoment, takeData};
-ghost use Rattle.reading.specs.Take.{inRoom, takeByMasks};
+ghost use Rattle.reading.specs.Step.{takeGeneric, takeSite, takeTask, takeCut, takeByMasks, takeMoment, takeData};
+ghost use Rattle.reading.specs.Take.{inRoom};
 use crate::step::Step;
 use crate::step::settle;
 use cut::Cut;

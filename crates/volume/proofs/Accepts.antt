@@ -8,7 +8,7 @@ use mathlib.Core.Path.{_≡_, refl, sym, ap, subst, _∙_}
 use mathlib.Core.List.{List, [], _∷_, _++_, append-assoc, append-nil}
 use lib.ListN.{length, drop, length-append}
 use Rattle.le.specs.Le.{part, Bytes}
-use Rattle.le.proofs.Laws.{length-part, part-here, part-bytes, to-end}
+use Rattle.le.proofs.Laws.{length-part}
 use Rattle.le.proofs.Here.{drop-bytes, cut-here}
 use Rattle.le.proofs.Coded.{Coded, stood}
 use Rattle.rules.specs.Check.{Rule, verdict, Hold, First}

@@ -9,7 +9,7 @@ use mathlib.Core.List.{List, [], _∷_, _++_, append-assoc, append-nil, reverseA
 use lib.Dec.{eqb}
 use lib.ListN.{length, length-append}
 use borrow.Author.Tests.{eqb-true, eqb-false}
-use Rattle.le.proofs.Laws.{run-append, run-end}
+use Rattle.le.proofs.Laws.{run-end}
 use Rattle.le.specs.Le.{run}
 use Rattle.rules.specs.Check.{Hold}
 use Rattle.rules.specs.States.{closing}

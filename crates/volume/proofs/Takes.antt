@@ -1,26 +1,14 @@
 -- The walks between the blocks of a volume, written out, and each kind of block taken where it stands. Assumes nothing.
 use Prim.Native.Nat.{ℕ, _+_, _-_}
-use mathlib.Core.Path.{_≡_, ap, ap₂}
 use mathlib.Core.Bool.{Bool, false, not, cond}
 use mathlib.Core.List.{List}
 use lib.Dec.{eqb, ltb}
 use lib.ListN.{length}
-use Rattle.le.specs.Le.{part}
-use Rattle.rules.specs.Check.{Rule, Hold, First, verdict}
-use Rattle.rules.proofs.Judged.{fine-if, first-decides}
 use Rattle.rules.specs.States.{closing}
 use Rattle.cut.specs.declared.Cut.{Cut}
-use Rattle.generic.specs.declared.Generic.{Generic}
 use Rattle.moment.specs.declared.Moment.{Moment}
 use Rattle.radial.specs.declared.Radial.{Radial}
-use Rattle.site.specs.declared.Site.{Site}
 use Rattle.task.specs.declared.Task.{Task}
-use Rattle.cut.specs.Cut.{cutOf, cutAt, cutCheck, cutRules}
-use Rattle.generic.specs.Generic.{genericOf, genericAt, genericCheck, genericRules}
-use Rattle.moment.specs.Moment.{momentOf, momentAt, momentCheck, momentRules}
-use Rattle.radial.specs.Radial.{radialOf, radialAt, radialCheck, radialRules}
-use Rattle.site.specs.Site.{siteOf, siteAt, siteCheck, siteRules}
-use Rattle.task.specs.Task.{taskOf, taskAt, taskCheck, taskRules}
 use Rattle.walk.specs.declared.due.Due.{Due}
 use Rattle.walk.specs.declared.due.Due.the-variants as due
 use Rattle.walk.specs.declared.due.Plan.{Plan}
@@ -28,10 +16,8 @@ use Rattle.walk.specs.declared.due.Count.{Count}
 use Rattle.walk.specs.declared.due.Present.{Present}
 use Rattle.walk.specs.declared.due.Rest.{Rest}
 use Rattle.walk.specs.declared.due.Walk.{Walk}
-use Rattle.walk.specs.Due.{radialDue, momentDue, dueIf}
-use Rattle.walk.specs.After.{afterGeneric, afterSite, afterTask, afterCut, afterRadial, afterMoment, afterDataIf}
-use Rattle.reading.specs.declared.step.Step.the-variants.{Took, Refused}
-use Rattle.reading.specs.Step.{settle, takeGeneric, takeSite, takeTask, takeCut, takeRadial, takeMoment, cutIn, blockAt}
+use Rattle.walk.specs.Due.{dueIf}
+use Rattle.walk.specs.After.{afterDataIf}
 use Rattle.volume.specs.Volume.{VolumeMoment, tiled, typesOf}
 
 -- ---- walks

@@ -1,10 +1,11 @@
 -- The blocks that a fresh state has taken are those that reading what is written finds. Assumes nothing.
 use Prim.Native.Nat.{ℕ, _+_}
 use mathlib.Core.Path.{_≡_, refl, sym, ap, ap₂, _∙_}
-use mathlib.Core.List.{List, [], _∷_, _++_, append-nil, append-assoc}
+use mathlib.Core.List.{List, [], _∷_, _++_}
 use lib.ListN.{length, take}
 use lib.Seq.{take-append-le, length-take-le}
 use Rattle.le.specs.Le.{run}
+use Rattle.le.proofs.Laws.{run-end}
 use Rattle.walk.specs.declared.due.Walk.{Walk}
 use Rattle.reading.specs.declared.step.Step.the-variants.{Took}
 use Rattle.walk.specs.Due.{sizeOf, atStart}
@@ -21,12 +22,6 @@ use Rattle.writer.proofs.Agreeing.{taken-when, keeps}
 use Rattle.writer.proofs.Ahead.{stays-after}
 use Rattle.writer.proofs.EachKind.{block-front}
 use Rattle.writer.proofs.Runs.{nothing-read}
-
--- the bytes of one block more
-run-more : (bs : List Block) (b : Block) → run bytesOf (bs ++ b ∷ []) ≡ run bytesOf bs ++ bytesOf b
-unfolding run
-run-more [] b = append-nil (bytesOf b)
-run-more (x ∷ bs) b = ap (λ (l : List ℕ). bytesOf x ++ l) (run-more bs b) ∙ sym (append-assoc (bytesOf x) (run bytesOf bs) (bytesOf b))
 
 module _ (A C : List ℕ) where
   -- a block that was read of A stands the same in the longer file
@@ -72,7 +67,7 @@ same-blocks (more {bs} {w} {room} b fits r t) =
     -- the block stands in what is then written as it stands in the room
     let found : blockIn (w .due) (written m held) w ≡ b = ap (λ (n : ℕ). blockIn (w .due) (take n held) w) (taken _ w m (v .takes) .end) ∙ block-front (w .due) held w ∙ same-block b fits w room t in
     record {
-      bytes = k .adds t ∙ ap (λ (x : List ℕ). x ++ bytesOf b) (before .bytes) ∙ sym (run-more bs b);
+      bytes = k .adds t ∙ ap (λ (x : List ℕ). x ++ bytesOf b) (before .bytes) ∙ sym (run-end bytesOf bs b);
       blocks =
           ap blocksIn (k .adds t)
           ∙ blocks-more (written w room) (bytesOf b) w m (v .agree .stops) (v .takes) (sym (length-take-le (m .at) held (k .agree t .within)) ∙ ap length (k .adds t))

@@ -8,8 +8,8 @@ use Rattle.radial.specs.declared.Radial.{Radial}
 use Rattle.walk.specs.declared.due.Walk.{Walk}
 use Rattle.walk.specs.Due.{cutPlace}
 use Rattle.reading.specs.declared.step.Step.{Step}
-use Rattle.reading.specs.Step.{takeRadial, cutIn}
-use Rattle.reading.specs.Take.{inRoom, takeByMasks}
+use Rattle.reading.specs.Step.{takeRadial, cutIn, takeByMasks}
+use Rattle.reading.specs.Take.{inRoom}
 use Rattle.reading.proofs.Masks.{by-masks}
 use Rattle.writer.specs.Block.{radial}
 use Rattle.writer.proofs.Putting.{answer-in, next-in, puts-taken, puts-refused}
