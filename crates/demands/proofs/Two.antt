@@ -14,6 +14,7 @@ use Rattle.gates.specs.declared.Gate.{Gate}
 use Rattle.gates.specs.declared.Told.{Told}
 use Rattle.gates.specs.Gates.{kindOf, gateOf, toldGate}
 use Rattle.gates.proofs.Gates.{gate-value, told-value, told-other}
+use Rattle.gates.proofs.Exact.{lossless}
 use Rattle.gates.proofs.Nearest.{hundredths-near}
 use Rattle.reading.proofs.Exactly.{told-exactly}
 use Rattle.volume.proofs.Meaning.{means}
@@ -57,6 +58,7 @@ codes =
       value = λ c code h.
           let g = gate-value c code h in
           rw (← g) (told-value c code (ap (λ (x : Gate). toldGate x .0) g));
+      float = lossless;
       hundredths = hundredths-near;
     }
 

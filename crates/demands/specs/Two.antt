@@ -23,6 +23,7 @@ use Rattle.task.specs.Task.{taskOf, taskBytes, TaskFits, taskSize}
 use Rattle.gates.specs.declared.Coding.{Coding}
 use Rattle.gates.specs.declared.Gate.the-variants.{Value}
 use Rattle.gates.specs.Gates.{kindOf, toldOf, differenceOf, floatOf, hundredthsOf}
+use Rattle.gates.specs.Exact.{Lossless}
 use Rattle.gates.specs.Nearest.{Nearest}
 use Rattle.reading.specs.declared.Stretch.{Stretch}
 use Rattle.walk.specs.declared.due.Walk.{Walk}
@@ -39,9 +40,13 @@ use Rattle.index.specs.Index.{indexOf}
 use Rattle.writer.specs.Block.{Block}
 use Rattle.writer.specs.Trips.{Fits, TakenWhen, Keeps, CopyOf, SameBlock, Run, SameBlocks, SamePlace, ReadBack}
 
--- a file is the bytes of a volume exactly when reading tells that it is complete, and of one volume alone (what a volume is:
--- `volume/Volume`, by the place of each block in the structure, with no word of how a file is read); of any file, the whole
--- radials are those of a volume's beginning. And what document 01 says of a volume in other words follows
+-- What a volume is, `volume/Volume` says by the place of each block in the structure, with no word of how a file is read.
+-- `Means` (`volume/Meaning`): a file is the bytes of a volume exactly when reading tells that it is complete (`reads`,
+-- `holds`), and of one volume alone (`once`), whose radials, in order, are the whole ones of the file, with these places and
+-- cuts. Of any file, what is told is what its accepted blocks, as the beginning of a volume that they are, and the bytes
+-- behind them say (`tells`, `accepts`), and these blocks are one alone (`one`).
+-- `Sense` (`volume/Sense`): what document 01 says of a volume in other words: the length of data is the sum of 32 plus length, a
+-- cut has two radials at least, no radial has one type twice
 pub record Volumes : Type 0 where
   pub means : Means
   pub sense : Sense
@@ -57,17 +62,20 @@ pub record RefusedExactly : Type 0 where
   pub files : (f : List ℕ) → ToldExactly f
 
 -- what reading accepts as a whole radial is a header that keeps its rules and moments that tile it, each keeping its own: against
--- the file's own task, the true counts and the masks of the radial's own cut, up to where its length of data ends
+-- the file's own task, the true counts and the masks of the radial's own cut, up to where its length of data ends. An answered
+-- moment's scale and offset are its header's own, its data are all there, and it has length over bin length gates
 pub record WholeRadials : Type 0 where
   pub radials : (f : List ℕ) → Bytes f → AllInPlace f [] (stretches f)
   pub moments : (f : List ℕ) (n t : ℕ) (s : Stretch) (p : ℕ) → whereIs f n t ≡ At s p → Sound (bytesOf f s) p
 
--- the five special codes stay five, with nothing but their kind; any other code is exactly (code less offset) over scale
+-- the five special codes stay five, with nothing but their kind; any other code is exactly (code less offset) over scale, whose
+-- float is one quotient of two floats that are exactly these two whole numbers, for every code, offset and scale of 16 bits
 pub record Codes : Type 0 where
   pub special : (c : Coding) (code : ℕ) → code < 5 → kindOf c code ≡ code
   pub bare : (c : Coding) (code : ℕ) → code < 5 → (toldOf c code .difference ≡ pos 0) × ((toldOf c code .scale ≡ 0) × (toldOf c code .hundredths ≡ pos 0))
   pub value : (c : Coding) (code : ℕ) → 5 ≤ code
       → toldOf c code ≡ record { gate = Value (floatOf c code); difference = differenceOf c code; scale = c .scale; hundredths = hundredthsOf c code }
+  pub float : (c : Coding) (code : ℕ) → code < 65536 → c .offset < 65536 → c .scale < 65536 → Lossless c code
   pub hundredths : (c : Coding) (code : ℕ) → 0 < c .scale → Nearest (differenceOf c code) (c .scale) (hundredthsOf c code)
 
 -- a record written and read again is the same record; a block's bytes read and written again are the same bytes

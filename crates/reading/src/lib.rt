@@ -4,6 +4,7 @@ ghost use Prim.Native.Nat.{_≤_};
 ghost use lib.ListN.{length};
 ghost use Rattle.reading.specs.Reading.{Tells, fuel, last, stop, advanceOf, stretches, nth, bytesOf};
 
+// What is said of a block, `step::Step`, and the functions that say it of a record.
 pub mod step;
 pub mod take;
 mod whole;

@@ -1,0 +1,76 @@
+#!/usr/bin/env python3
+"""Slips made in definition and code alike: each has to be refused.
+
+    python3 tools/slips.py DIR
+
+An edit of must-fail/ changes the code and leaves the definition, so a promise fails. These change both, and the proofs that
+only follow the code, so that each function still keeps its promise: what refuses them is a statement that does not share the
+definition's words. Each is made in a copy of the repository under DIR, where `rt check demands` has to fail; it prints the
+crate that refuses. It takes some minutes a slip.
+"""
+import os
+import re
+import shutil
+import subprocess
+import sys
+
+OWN_CUT, FIRST_CUT = 'cut_place(w.count.cut)', 'cut_place(1)'
+
+SLIPS = {
+    # every radial judged by the masks of cut 1 (numbers 20 and 23)
+    'masks_of_cut_one': [
+        ('crates/reading/specs/Step.antt', 'cutIn p w = cutAt p (cutPlace (w .count .cut))', 'cutIn p w = cutAt p (cutPlace 1)'),
+        ('crates/reading/proofs/Masks.antt', 'cutPlace (w .count .cut)', 'cutPlace 1'),
+        ('crates/reading/src/step.rt', OWN_CUT, FIRST_CUT),
+        ('crates/reading/src/whole.rt', OWN_CUT, FIRST_CUT),
+        ('crates/writer/src/on.rt', OWN_CUT, FIRST_CUT),
+    ],
+    # the sequence counted from the cut's start (number 12)
+    'sequence_from_the_cut': [
+        ('crates/walk/specs/After.antt', 'whole = cond more (w .count .whole) (w .present .sequence);',
+         'whole = cond more (w .count .whole) (cond (closes && later) 0 (w .present .sequence));'),
+        ('crates/walk/src/after.rt', '            count.cut = count.cut + 1;\n',
+         '            count.whole = 0;\n            count.cut = count.cut + 1;\n'),
+    ],
+    # the types seen not cleared at a new radial (number 20)
+    'seen_not_cleared': [
+        ('crates/walk/specs/After.antt', 'left = r .«length_of_data»; seen = 0;', 'left = r .«length_of_data»; seen = w .rest .seen;'),
+        ('crates/walk/src/after.rt', 'left: r.length_of_data as usize,\n            seen: 0,',
+         'left: r.length_of_data as usize,\n            seen: w.rest.seen,'),
+    ],
+}
+
+
+def copied(to):
+    files = subprocess.run(['git', 'ls-files'], capture_output=True, text=True, check=True).stdout.split()
+    for path in files:
+        os.makedirs(os.path.join(to, os.path.dirname(path)), exist_ok=True)
+        shutil.copy(path, os.path.join(to, path))
+
+
+def slipped(folder, changes):
+    for path, old, new in changes:
+        path = os.path.join(folder, path)
+        with open(path, encoding='utf-8') as file:
+            text = file.read()
+        if old not in text:
+            sys.exit(f'{path}: not found: {old}')
+        with open(path, 'w', encoding='utf-8') as file:
+            file.write(text.replace(old, new))
+
+
+def main():
+    proved = []
+    for name, changes in SLIPS.items():
+        folder = os.path.join(sys.argv[1], name)
+        copied(folder)
+        slipped(folder, changes)
+        run = subprocess.run(['rt', 'check', 'demands'], cwd=folder, stdout=subprocess.PIPE, stderr=subprocess.STDOUT, text=True)
+        by = re.findall(r'^rt: (\w+) NOT PROVED \(exit', run.stdout, re.M)
+        print(f'{name}: refused by {", ".join(by)}' if run.returncode == 1 and by else f'{name}: NOT refused', flush=True)
+        proved += [] if by else [name]
+    sys.exit(bool(proved))
+
+
+if __name__ == '__main__':
+    main()
