@@ -15,7 +15,7 @@ use mir.ValLaws.{toZ-pos}
 use borrow.Author.Tests.{le-leb, lt-leb, le-ltb, lt-ltb, eq-eqb, ne-eqb, leb-true, eqb-true}
 use Rattle.le.specs.Le.{int}
 use Rattle.le.proofs.Tests.{both, eqb-same}
-use Rattle.rules.specs.States.{rhi, opening, closing}
+use Rattle.rules.specs.States.{rhi, mostCuts, opening, closing}
 use Rattle.rules.specs.Ranges.{among, is, within, notBelowZero, counts, countsInCut}
 
 and-false : (b : Bool) → (b && false) ≡ false
@@ -101,11 +101,6 @@ out-of-cut before x o =
 pub one-bit : (k : ℕ) → k < 64 → (1 * 2 ^ k) % 18446744073709551616 ≡ 2 ^ k
 one-bit k h = rw one-mul (mod-eq-of-lt (pow-lt h))
 
--- numbers of the state rules, none of which reaches the sign bit
-small-if : (b : Bool) (x y n : ℕ) → x < n → y < n → cond b x y < n
-small-if true x y n h k = h
-small-if false x y n h k = k
-
 -- scan types 2 and 5, as a match on them tells
 pub turned : (scan : ℕ) → (scan ≡ 2) ⊎ (scan ≡ 5) → rhi scan ≡ true
 unfolding rhi
@@ -115,6 +110,15 @@ pub not-turned : (scan : ℕ) → ((scan ≡ 2) ⊎ (scan ≡ 5) → ⊥) → rh
 unfolding rhi
 not-turned scan h =
     rw (exactly w32 2 scan (lit< tt), exactly w32 5 scan (lit< tt), ne-eqb scan 2 (λ e. h (inl e)), ne-eqb scan 5 (λ e. h (inr e)))
+
+-- numbers of the state rules, none of which reaches the sign bit
+small-if : (b : Bool) (x y n : ℕ) → x < n → y < n → cond b x y < n
+small-if true x y n h k = h
+small-if false x y n h k = k
+
+pub mostCuts-small : (scan : ℕ) → mostCuts scan < 2147483648
+unfolding mostCuts
+mostCuts-small scan = small-if (rhi scan) 1 50 2147483648 (lit< tt) (lit< tt)
 
 pub opening-small : (scan cut : ℕ) → opening scan cut < 2147483648
 unfolding opening

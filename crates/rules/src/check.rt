@@ -12,11 +12,14 @@ pub enum Check {
 pub fn also(so_far: Check, holds: bool, number: u32, place: u8) -> Check
     ensures { λ r. ⌜ r ≡ alsoOf «so_far» holds number place ⌝ }
 {
-    if holds {
-        return so_far;
-    }
     match so_far {
-        Check::Fine => Check::Broken(number, place),
+        Check::Fine => {
+            if holds {
+                Check::Fine
+            } else {
+                Check::Broken(number, place)
+            }
+        }
         Check::Broken(n, p) => Check::Broken(n, p),
     }
 }
