@@ -13,22 +13,22 @@ returns : tie.Need-returns
 unfolding stateOk
 returns c =
     let a = c .before .before .before .args in
-    rw (eq-eqb _ _ (c .before .before .match .keys1), exactly w32 (opening (a .scan) (a .cut)) (a .x) (opening-small (a .scan) (a .cut)), c .opening .ensures)
+    rw (eq-eqb (a .in-cut) 0 (c .before .before .match .keys1), exactly w32 (opening (a .scan) (a .cut)) (a .x) (opening-small (a .scan) (a .cut)), c .opening .ensures)
 
 returns-2 : tie.Need-returns-2
 unfolding stateOk
-returns-2 c = rw (eq-eqb _ _ (c .before .match .keys1), no-opening _ _ _ (c .match2 .rest .1))
+returns-2 c = rw (eq-eqb (c .before .before .args .in-cut) 0 (c .before .match .keys1), no-opening _ _ _ (c .match2 .rest .1))
 
 returns-3 : tie.Need-returns-3
 unfolding stateOk
-returns-3 c = rw (ne-eqb _ _ (c .before .match .rest .1), exactly w32 1 (c .before .before .args .x) (lit< tt), eq-eqb _ _ (c .match3 .keys1))
+returns-3 c = rw (ne-eqb (c .before .before .args .in-cut) 0 (c .before .match .rest .1), exactly w32 1 (c .before .before .args .x) (lit< tt), eq-eqb _ _ (c .match3 .keys1))
 
 returns-4 : tie.Need-returns-4
 unfolding stateOk
 returns-4 c =
     let a = c .before .before .before .args in
     rw (
-      ne-eqb _ _ (c .before .before .match .rest .1),
+      ne-eqb (a .in-cut) 0 (c .before .before .match .rest .1),
       exactly w32 1 (a .x) (lit< tt),
       ne-eqb (a .x) 1 (λ e. ⊎-elim (λ k. omega arith) (⊎-elim (λ k. omega arith) (λ k. omega arith)) (c .before .match3 .keys2)),
       exactly w32 (closing (a .scan) (a .cuts) (a .cut)) (a .x) (closing-small (a .scan) (a .cuts) (a .cut)),
@@ -39,7 +39,7 @@ returns-5 : tie.Need-returns-5
 unfolding stateOk
 returns-5 c =
     rw (
-      ne-eqb _ _ (c .before .match .rest .1),
+      ne-eqb (c .before .before .args .in-cut) 0 (c .before .match .rest .1),
       exactly w32 1 (c .before .before .args .x) (lit< tt),
       ne-eqb _ _ (c .match3 .rest .0 .1),
       no-closing _ _ _ _ (c .match3 .rest .1),
