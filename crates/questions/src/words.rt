@@ -9,7 +9,10 @@ use printing::word;
 
 fn say(answer: GateAnswer) {
     match answer {
-        GateAnswer::Answered(told) => say_gate(told.gate),
+        GateAnswer::Answered(told) => {
+            let gate = told.gate;
+            say_gate(gate)
+        }
         GateAnswer::Refused(number) => say_refusal(number),
     }
 }
