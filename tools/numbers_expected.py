@@ -1,6 +1,7 @@
 #!/usr/bin/env python3
-"""What the program `numbers` prints: document 01's numbers that are run.
+"""What the program `numbers` prints: document 01's numbers that are run, and a cloud radar's file.
 
+    python3 tools/cloud.py > crates/numbers/stdin
     python3 tools/numbers_expected.py > crates/numbers/stdout
 
 A line for each file: a label, the verdict, the bytes read and the whole radials.
@@ -8,6 +9,7 @@ A line for each file: a label, the verdict, the bytes read and the whole radials
 import sys
 
 sys.dont_write_bytecode = True
+import cloud
 import reference as ref
 import volumes
 
@@ -64,12 +66,24 @@ def runs():
             first = n + 1
 
 
-def main():
-    for label, data in files():
+def cloud_files():
+    heights = {'antenna_height': 512.0, 'ground_height': 508.0}
+    yield 'cloud radar', cloud.cloud()
+    yield 'cloud radar, high station', cloud.cloud(**heights)
+    yield 'cloud radar, spectra', cloud.cloud(generic_type=3, **heights)
+
+
+def show(files):
+    for label, data in files:
         r = ref.read(data)
         print(f'{label}: {told(r)} {counts(r)}')
+
+
+def main():
+    show(files())
     for first, last, r, s in runs():
         print(f'prefixes {first} to {last}: {told(r)} to {told(s)} {counts(s)}')
+    show(cloud_files())
 
 
 if __name__ == '__main__':

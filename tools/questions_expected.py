@@ -16,7 +16,7 @@ document's text alone; nothing in it comes from the program. A section for each 
     tallies C: for each type, radials/six counts
 
 and after the whole volume's, each gate of some moments (kind, difference, scale, hundredths,
-the float's bits) and rows in short rooms. A refusal is `no` and its number.
+the float's bits), some gates in words, and rows in short rooms. A refusal is `no` and its number.
 """
 import struct
 import sys
@@ -95,6 +95,17 @@ def each_gate(r, n, t):
         i += 1
 
 
+KIND_WORDS = ['no echo', 'range folded', 'the radar did not look', 'unknown', 'reserved', 'a value']
+REFUSAL_WORDS = {30: 'nothing yet: no such whole radial', 31: 'no such moment in the radial',
+                 32: 'no such gate in the moment'}
+
+
+def in_words(r, n, t, i):
+    answer = r.gate(n, t, i)
+    said = REFUSAL_WORDS[answer[1]] if is_refused(answer) else KIND_WORDS[answer.kind]
+    return f'in words {n} {t} {i}: {said}'
+
+
 # --------------------------------------------------------------------------
 # Rows: only the first places of each room are lent.
 
@@ -161,6 +172,9 @@ def whole(data):
     yield from section('whole', data)
     for n, t in (1, 1), (1, 2), (1, 3), (4, 64), (4, 63), (8, 4), (0, 1), (9, 1), (1, 4):
         yield from each_gate(r, n, t)
+    for n, t, i in *((1, 1, i) for i in range(6)), (1, 1, 19), (1, 4, 0):
+        yield in_words(r, n, t, i)
+    yield in_words(ref.read(data[:1200]), 1, 1, 0)
     for asked in (1, 2, 13, 13), (1, 2, 12, 13), (1, 2, 13, 12), (1, 2, 0, 0), (9, 2, 0, 0), (1, 4, 0, 0):
         yield lent_row(r, *asked)
 

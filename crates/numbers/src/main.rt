@@ -1,6 +1,7 @@
-// Runs the numbers of document 01 that are run ("Numbers to try"): for each file, a line of what reading tells, its
-// verdict, the bytes read and the whole radials.
+// Runs the numbers of document 01 that are run ("Numbers to try"), and a cloud radar's file, on standard input: for each
+// file, a line of what reading tells, its verdict, the bytes read and the whole radials.
 ghost use Prim.Native.Nat.{_≤_};
+use libc::STDIN_FILENO;
 use printing::first;
 use printing::number;
 use printing::print_reading;
@@ -81,9 +82,9 @@ fn read_first(file: &[u8], n: usize) -> Reading {
     reading::read(first(file, n))
 }
 
-fn tell(label: &[u8], volume: &[u8; 873], n: usize) {
+fn tell(label: &[u8], file: &[u8], n: usize) {
     word(label);
-    print_reading(read_first(volume, n));
+    print_reading(read_first(file, n));
 }
 
 fn wrong_magic() {
@@ -182,6 +183,24 @@ fn prefixes(file: &[u8]) {
     }
 }
 
+// A cloud radar's file has a volume's magic and other blocks (source document 002). Its station's heights stand where a
+// volume has latitude and longitude, so a high station is refused there; a low one in the task, where a volume has the
+// polarization and this file a text.
+fn cloud_radar() {
+    let mut buf = io::large_buffer();
+    let n = io::read_full(STDIN_FILENO, &mut buf);
+    tell(b"cloud radar:", &buf, n);
+    // antenna and ground at 512 and 508 metres
+    buf[74] = 0;
+    buf[75] = 0x44;
+    buf[78] = 0xfe;
+    buf[79] = 0x43;
+    tell(b"cloud radar, high station:", &buf, n);
+    // generic type 3
+    buf[8] = 3;
+    tell(b"cloud radar, spectra:", &buf, n);
+}
+
 fn main() {
     wrong_magic();
     cut_numbers();
@@ -189,4 +208,5 @@ fn main() {
     lengths();
     let v = small();
     prefixes(&v);
+    cloud_radar();
 }

@@ -7,6 +7,7 @@ mod lines;
 mod print;
 mod rows_told;
 mod tallies_told;
+mod words;
 
 use crate::lines::Question;
 use libc::STDIN_FILENO;
@@ -49,6 +50,19 @@ fn each_gate(file: &[u8]) {
     gates_told::print_each(file, 1, 4);
 }
 
+// Each special code, a value, no such gate and no such moment; and the first 1,200 bytes, where radial 1 is not whole.
+fn in_words(file: &[u8]) {
+    words::print_words(file, 1, 1, 0);
+    words::print_words(file, 1, 1, 1);
+    words::print_words(file, 1, 1, 2);
+    words::print_words(file, 1, 1, 3);
+    words::print_words(file, 1, 1, 4);
+    words::print_words(file, 1, 1, 5);
+    words::print_words(file, 1, 1, 19);
+    words::print_words(file, 1, 4, 0);
+    words::print_words(first(file, 1200), 1, 1, 0);
+}
+
 // The moment of type 2 in radial 1 has 13 gates. The last two show that 30 and 31 come before 33.
 fn short_rooms(file: &[u8]) {
     rows_told::print_lent(file, 1, 2, 13, 13);
@@ -89,6 +103,7 @@ fn main() {
     let file = first(&buf, n);
     section(b"whole", file);
     each_gate(file);
+    in_words(file);
     short_rooms(file);
     prefixes(file);
     damaged(b"bad state in radial 7", &mut buf, n, 2097, 9);

@@ -1,7 +1,7 @@
 -- A signed number in a range of numbers that are not below 0, by its bits: one law over the width. Assumes nothing.
 use mathlib.Core.Path.{_≡_, refl, sym, _∙_}
 use mathlib.Core.Bool.{Bool, true, false, _&&_, cond}
-use mathlib.Core.Logic.{dite}
+use mathlib.Core.Logic.{dite, _⊎_, inl, inr, ⊎-elim}
 use Prim.Native.Nat.{ℕ, suc, _+_, _*_, _-_, _%_, _^_, _≤_, _<_}
 use native.Mathlib.Decide.{decLt}
 use native.Mathlib.Nat.{one-mul, mod-eq-of-lt}
@@ -102,6 +102,16 @@ out-of-cut before x o =
 pub one-bit : (k : ℕ) → k < 64 → (1 * 2 ^ k) % 18446744073709551616 ≡ 2 ^ k
 one-bit k h = rw one-mul (mod-eq-of-lt (pow-lt h))
 
+-- scan types 2 and 5, as a match on them tells
+pub turned : (scan : ℕ) → (scan ≡ 2) ⊎ (scan ≡ 5) → rhi scan ≡ true
+unfolding rhi
+turned scan h = rw (exactly w32 2 scan (lit< tt), exactly w32 5 scan (lit< tt)) (⊎-elim (λ e. rw e) (λ e. rw e) h)
+
+pub not-turned : (scan : ℕ) → ((scan ≡ 2) ⊎ (scan ≡ 5) → ⊥) → rhi scan ≡ false
+unfolding rhi
+not-turned scan h =
+    rw (exactly w32 2 scan (lit< tt), exactly w32 5 scan (lit< tt), ne-eqb scan 2 (λ e. h (inl e)), ne-eqb scan 5 (λ e. h (inr e)))
+
 -- numbers of the state rules, none of which reaches the sign bit
 small-if : (b : Bool) (x y n : ℕ) → x < n → y < n → cond b x y < n
 small-if true x y n h k = h
@@ -118,6 +128,27 @@ opening-small scan cut = small-if (leb cut 1) (cond (rhi scan) 5 3) 0 2147483648
 pub closing-small : (scan cuts cut : ℕ) → closing scan cuts cut < 2147483648
 unfolding closing
 closing-small scan cuts cut = small-if (ltb cut cuts) 2 (cond (rhi scan) 6 4) 2147483648 (lit< tt) (small-if (rhi scan) 6 4 2147483648 (lit< tt) (lit< tt))
+
+unlike-if : (b : Bool) (x y z : ℕ) → eqb z x ≡ false → eqb z y ≡ false → eqb z (cond b x y) ≡ false
+unlike-if true x y z h k = h
+unlike-if false x y z h k = k
+
+-- a state that no first radial of a cut has, and one that closes no cut
+pub no-opening : (scan cut x : ℕ) → ((x ≡ 0) ⊎ ((x ≡ 3) ⊎ (x ≡ 5)) → ⊥) → is (opening scan cut) (int x) ≡ false
+unfolding opening
+no-opening scan cut x h =
+    exactly w32 (opening scan cut) x (opening-small scan cut)
+    ∙ unlike-if (leb cut 1) (cond (rhi scan) 5 3) 0 x
+    (unlike-if (rhi scan) 5 3 x (ne-eqb x 5 (λ e. h (inr (inr e)))) (ne-eqb x 3 (λ e. h (inr (inl e)))))
+    (ne-eqb x 0 (λ e. h (inl e)))
+
+pub no-closing : (scan cuts cut x : ℕ) → ((x ≡ 2) ⊎ ((x ≡ 4) ⊎ (x ≡ 6)) → ⊥) → is (closing scan cuts cut) (int x) ≡ false
+unfolding closing
+no-closing scan cuts cut x h =
+    exactly w32 (closing scan cuts cut) x (closing-small scan cuts cut)
+    ∙ unlike-if (ltb cut cuts) 2 (cond (rhi scan) 6 4) x
+    (ne-eqb x 2 (λ e. h (inl e)))
+    (unlike-if (rhi scan) 6 4 x (ne-eqb x 6 (λ e. h (inr (inr e)))) (ne-eqb x 4 (λ e. h (inr (inl e)))))
 
 -- what a range, an exact number and a right count say of the number
 pub least : (w : Width) (lo hi x : ℕ) → hi < 2 ^ hbits w → among (pos lo) (pos hi) (toZ w x) ≡ true → lo ≤ x

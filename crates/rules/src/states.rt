@@ -1,39 +1,33 @@
 // Which radial states are allowed where, and how many cuts a task may have.
 ghost use mathlib.Core.Path.{_≡_};
-ghost use Rattle.rules.specs.States.{rhi as rhiOf, mostCuts, cutNumberOk, opening as openingOf, closing as closingOf, stateOk};
-
-fn rhi(scan: u32) -> bool
-    ensures { λ r. ⌜ r ≡ rhiOf scan ⌝ }
-{
-    match scan {
-        2 | 5 => true,
-        _ => false,
-    }
-}
-
-fn most_cuts(scan: u32) -> u32
-    ensures { λ r. ⌜ r ≡ mostCuts scan ⌝ }
-{
-    if rhi(scan) { 1 } else { 50 }
-}
+ghost use Rattle.rules.specs.States.{cutNumberOk, opening as openingOf, closing as closingOf, stateOk};
 
 // Number 8 (table 2-4).
 pub fn cut_number_ok(scan: u32, x: u32) -> bool
     ensures { λ r. ⌜ r ≡ cutNumberOk scan x ⌝ }
 {
-    match x {
-        0 => false,
-        _ => x <= most_cuts(scan),
+    match scan {
+        2 | 5 => match x {
+            1 => true,
+            _ => false,
+        },
+        _ => match x {
+            1..=50 => true,
+            _ => false,
+        },
     }
 }
 
 fn opening(scan: u32, cut: u32) -> u32
     ensures { λ r. ⌜ r ≡ openingOf scan cut ⌝ }
 {
-    if cut <= 1 {
-        return if rhi(scan) { 5 } else { 3 };
+    match cut {
+        0..=1 => match scan {
+            2 | 5 => 5,
+            _ => 3,
+        },
+        _ => 0,
     }
-    0
 }
 
 pub fn closing(scan: u32, cuts: u32, cut: u32) -> u32
@@ -42,18 +36,25 @@ pub fn closing(scan: u32, cuts: u32, cut: u32) -> u32
     if cut < cuts {
         return 2;
     }
-    if rhi(scan) { 6 } else { 4 }
+    match scan {
+        2 | 5 => 6,
+        _ => 4,
+    }
 }
 
 // Number 10 (table 3-1).
 pub fn state_ok(scan: u32, cuts: u32, cut: u32, in_cut: usize, x: u32) -> bool
     ensures { λ r. ⌜ r ≡ stateOk scan cuts cut «in_cut» x ⌝ }
 {
-    if in_cut == 0 {
-        return x == opening(scan, cut);
-    }
-    match x {
-        1 => true,
-        _ => x == closing(scan, cuts, cut),
+    match in_cut {
+        0 => match x {
+            0 | 3 | 5 => x == opening(scan, cut),
+            _ => false,
+        },
+        _ => match x {
+            1 => true,
+            2 | 4 | 6 => x == closing(scan, cuts, cut),
+            _ => false,
+        },
     }
 }
