@@ -1,4 +1,3 @@
-use native.Mathlib.Omega.{arith}
 use lib.Dec.{lit<}
 use mir.Syntax.{w32}
 use borrow.Author.Tests.{eq-eqb, ne-eqb}
