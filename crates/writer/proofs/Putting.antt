@@ -90,7 +90,7 @@ module _ (b : Block) (w : Walk) (room : List ℕ) {s : Step} (said : s ≡ inRoo
   said-is : w .at ≤ length room → s ≡ saysOf b room w
   said-is h = said ∙ sym (fits-room (w .at) (saysOf b room w) (omega arith))
 
-  pub answer-in : {a : Answer} → a ≡ answerTo (kindOf b) s (fitsOf b w) (lengthOf b) w (length room)
+  answer-in : {a : Answer} → a ≡ answerTo (kindOf b) s (fitsOf b w) (lengthOf b) w (length room)
       → a ≡ answerTo (kindOf b) (saysOf b room w) (fitsOf b w) (lengthOf b) w (length room)
   unfolding answerTo
   answer-in e = e ∙ go (ltb (length room) (w .at)) refl
@@ -100,7 +100,7 @@ module _ (b : Block) (w : Walk) (room : List ℕ) {s : Step} (said : s ≡ inRoo
       go true q = rw q
       go false q = ap (λ (x : Step). answerTo (kindOf b) x (fitsOf b w) (lengthOf b) w (length room)) (said-is (ltb-false (length room) (w .at) q))
 
-  pub next-in : {a : Answer} {n : Walk} → a ≡ answerTo (kindOf b) s (fitsOf b w) (lengthOf b) w (length room) → a ≡ Taken → n ≡ nextOf s w
+  next-in : {a : Answer} {n : Walk} → a ≡ answerTo (kindOf b) s (fitsOf b w) (lengthOf b) w (length room) → a ≡ Taken → n ≡ nextOf s w
       → n ≡ nextOf (saysOf b room w) w
   next-in e t q = q ∙ ap (λ (x : Step). nextOf x w) (said-is (has-passed _ _ _ _ w _ e t .within))
 
@@ -120,6 +120,16 @@ module _ (b : Block) (w : Walk) (room : List ℕ) {a : Answer} (answered : a ≡
   pub puts-refused : {p : Put} (number place : ℕ) → a ≡ Refused number place → p ≡ record { answer = Refused number place; walk = w } → Puts (putOn b w room) p room
   unfolding putOn outcome
   puts-refused number place t q = rw (sym answered ∙ t, q) (record { answer = refl; walk = refl; room = refl })
+
+-- and one that answers by what is said with no room behind it
+module _ (b : Block) (w : Walk) (room : List ℕ) {s : Step} (said : s ≡ inRoom (w .at) (saysOf b room w)) (short : length room < 2 ^ 63) {a : Answer}
+    (answered : a ≡ answerTo (kindOf b) s (fitsOf b w) (lengthOf b) w (length room)) where
+  pub puts-said : {held : List ℕ} {n : Walk} {p : Put} → a ≡ Taken → held ≡ stored (lengthOf b) room (w .at) (bytesOf b)
+      → n ≡ nextOf s w → p ≡ record { answer = Taken; walk = n } → Puts (putOn b w room) p held
+  puts-said t h m q = puts-taken b w room (answer-in b w room said short answered) t h (next-in b w room said short answered t m) q
+
+  pub puts-not : {p : Put} (number place : ℕ) → a ≡ Refused number place → p ≡ record { answer = Refused number place; walk = w } → Puts (putOn b w room) p room
+  puts-not number place t q = puts-refused b w room (answer-in b w room said short answered) number place t q
 
 module _ (b : Block) (w : Walk) (room : List ℕ) where
   pub puts-agreed : {held : List ℕ} {p : Put} {t : Bool} → t ≡ agrees w room → t ≡ true → Puts (putOn b w room) p held → Puts (put b w room) p held

@@ -12,7 +12,7 @@ use Rattle.reading.specs.Step.{takeRadial, cutIn, takeByMasks}
 use Rattle.reading.specs.Take.{inRoom}
 use Rattle.reading.proofs.Masks.{by-masks}
 use Rattle.writer.specs.Block.{radial}
-use Rattle.writer.proofs.Putting.{answer-in, next-in, puts-taken, puts-refused}
+use Rattle.writer.proofs.Putting.{puts-said, puts-not}
 use Rattle.writer.proofs.on.radial_on.Statement.{statement}
 use Rattle.writer.proofs.on.radial_on.Tie as tie
 
@@ -23,34 +23,26 @@ in-cut r w room e m z k = e ∙ ap (inRoom (w .at)) (rw (m, z, k) (by-masks room
 
 returns : tie.Need-returns
 returns c =
-    let written = c .before .before .before .before in
-    let told = written .before .before in
-    let answered = told .before .before in
-    let said = answered .before in
-    let masks = said .before in
+    let told = c .before .before .before .before .before .before in
+    let masks = told .before .before .before .before in
     let placed = masks .before .before .before .before in
     let start = placed .before .before in
     let a = start .args in
-    let room = a .room .now in
-    let s = in-cut (a .r) (a .w) room (said .radial .ensures) (masks .before .before .u64-at .ensures) (masks .u64-at2 .ensures) (placed .cut-place .ensures) in
-    let e = answered .answer-to .ensures in
-    let t = told .enum-told .given .1 in
-    puts-taken (radial (a .r)) (a .w) room (answer-in (radial (a .r)) (a .w) room s (omega (arith, start)) e) t (written .write .ensures)
-    (next-in (radial (a .r)) (a .w) room s (omega (arith, start)) e t (c .before .next-of .ensures)) (c .taken .ensures)
+    puts-said (radial (a .r)) (a .w) (a .room .now)
+    (in-cut (a .r) (a .w) (a .room .now) (told .before .before .before .radial .ensures) (masks .before .before .u64-at .ensures) (masks .u64-at2 .ensures) (placed .cut-place .ensures))
+    (omega (arith, start)) (told .before .before .answer-to .ensures) (told .enum-told .given .1)
+    (c .before .before .before .before .write .ensures) (c .before .next-of .ensures) (c .taken .ensures)
 
 returns-2 : tie.Need-returns-2
 returns-2 c =
-    let known = c .before .before in
-    let answered = known .before .before in
-    let said = answered .before in
+    let said = c .before .before .before .before .before in
     let masks = said .before in
     let placed = masks .before .before .before .before in
     let start = placed .before .before in
     let a = start .args in
-    let room = a .room .now in
-    let s = in-cut (a .r) (a .w) room (said .radial .ensures) (masks .before .before .u64-at .ensures) (masks .u64-at2 .ensures) (placed .cut-place .ensures) in
-    puts-refused (radial (a .r)) (a .w) room (answer-in (radial (a .r)) (a .w) room s (omega (arith, start)) (answered .answer-to .ensures))
-    _ _ (known .n .given .1) (c .refused .ensures)
+    puts-not (radial (a .r)) (a .w) (a .room .now)
+    (in-cut (a .r) (a .w) (a .room .now) (said .radial .ensures) (masks .before .before .u64-at .ensures) (masks .u64-at2 .ensures) (placed .cut-place .ensures))
+    (omega (arith, start)) (c .before .before .before .before .answer-to .ensures) _ _ (c .before .before .n .given .1) (c .refused .ensures)
 
 pub radial-on-spec : {M : Type 1} → statement M
 radial-on-spec =

@@ -1,33 +1,24 @@
 use native.Mathlib.Omega.{arith}
 use borrow.Author.Needs.{needs}
 use Rattle.writer.specs.Block.{site}
-use Rattle.writer.proofs.Putting.{answer-in, next-in, puts-taken, puts-refused}
+use Rattle.writer.proofs.Putting.{puts-said, puts-not}
 use Rattle.writer.proofs.on.site_on.Statement.{statement}
 use Rattle.writer.proofs.on.site_on.Tie as tie
 
 returns : tie.Need-returns
 returns c =
-    let written = c .before .before .before .before in
-    let told = written .before .before in
-    let answered = told .before .before in
-    let said = answered .before in
+    let told = c .before .before .before .before .before .before in
+    let said = told .before .before .before in
     let a = said .before .before .args in
-    let room = a .room .now in
-    let s = said .site .ensures in
-    let e = answered .answer-to .ensures in
-    let t = told .enum-told .given .1 in
-    puts-taken (site (a .r)) (a .w) room (answer-in (site (a .r)) (a .w) room s (omega arith) e) t (written .write .ensures)
-    (next-in (site (a .r)) (a .w) room s (omega arith) e t (c .before .next-of .ensures)) (c .taken .ensures)
+    puts-said (site (a .r)) (a .w) (a .room .now) (said .site .ensures) (omega arith) (told .before .before .answer-to .ensures) (told .enum-told .given .1)
+    (c .before .before .before .before .write .ensures) (c .before .next-of .ensures) (c .taken .ensures)
 
 returns-2 : tie.Need-returns-2
 returns-2 c =
-    let known = c .before .before in
-    let answered = known .before .before in
+    let answered = c .before .before .before .before in
     let said = answered .before in
     let a = said .before .before .args in
-    let room = a .room .now in
-    puts-refused (site (a .r)) (a .w) room (answer-in (site (a .r)) (a .w) room (said .site .ensures) (omega arith) (answered .answer-to .ensures))
-    _ _ (known .n .given .1) (c .refused .ensures)
+    puts-not (site (a .r)) (a .w) (a .room .now) (said .site .ensures) (omega arith) (answered .answer-to .ensures) _ _ (c .before .before .n .given .1) (c .refused .ensures)
 
 pub site-on-spec : {M : Type 1} → statement M
 site-on-spec =
