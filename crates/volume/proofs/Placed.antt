@@ -36,7 +36,7 @@ use Rattle.reading.proofs.Radials.{said, tile-more}
 use Rattle.volume.specs.Volume.{VolumeMoment, VolumeRadial, Volume, IsVolume, Headed, bytesOfMoment, bytesOfRadial, bytesOfVolume, tiled, typesOf, judgedRadial, MomentsOk, RadialOk, LayerOk, LayersOk, CutsOk}
 use Rattle.volume.specs.Accepted.{Begun, BegunOk, Accepted, AcceptedOk, nothing, generic, site, task, radials, radial, moment, volume, volumeOf, bytesOfAccepted, radialsIn, UnclosedOk}
 use Rattle.volume.specs.Meaning.{layerStretches, layersStretches, volumeStretches, acceptedStretches, endOf, firstPlace, Accepts}
-use Rattle.volume.specs.InPlace.{taskIn, cutNumber, ofCut, InPlace, AllInPlace}
+use Rattle.volume.specs.InPlace.{taskBlock, cutBlock, ofCut, InPlace, AllInPlace}
 use Rattle.volume.proofs.Accepts.{accepts}
 use Rattle.volume.proofs.Layers.{endsAt, stretches-end}
 use Rattle.volume.proofs.Tells.{same-number}
@@ -84,12 +84,12 @@ module _ (f : List ℕ) (c : Cut) (r : Radial) where
 -- ---- a radial, a layer, the layers
 
 module _ (f : List ℕ) where
-  placed : (k at : ℕ) (b : VolumeRadial) (g : List ℕ) (before : List Stretch) → RadialOk (taskIn f) (cutNumber f k) k (length before) (ofCut k before) b → At f at (bytesOfRadial b ++ g)
+  placed : (k at : ℕ) (b : VolumeRadial) (g : List ℕ) (before : List Stretch) → RadialOk (taskBlock f) (cutBlock f k) k (length before) (ofCut k before) b → At f at (bytesOfRadial b ++ g)
       → InPlace f before (record { start = at; end = at + length (bytesOfRadial b); cut = k }) × At f (at + length (bytesOfRadial b)) g
   unfolding radialAt radialCheck
   placed k at b g before ok a =
-      let against : RadialDue = judgedRadial (taskIn f) k (length before) (ofCut k before) in
-      let c = cutNumber f k in
+      let against : RadialDue = judgedRadial (taskBlock f) k (length before) (ofCut k before) in
+      let c = cutBlock f k in
       let r = b .header in
       let ms = run bytesOfMoment (b .moments) in
       let end = at + length (bytesOfRadial b) in
@@ -118,14 +118,14 @@ module _ (f : List ℕ) where
   -- each of the rest of a layer of cut k, which stands behind the radials `before`
   abbrev Each : ℕ → ℕ → ℕ → List VolumeRadial → Type 0
   Each k before inCut [] = Unit {0}
-  Each k before inCut (b ∷ bs) = RadialOk (taskIn f) (cutNumber f k) k before inCut b × Each k (suc before) (suc inCut) bs
+  Each k before inCut (b ∷ bs) = RadialOk (taskBlock f) (cutBlock f k) k before inCut b × Each k (suc before) (suc inCut) bs
 
-  each-closed : (k before inCut : ℕ) (l : List VolumeRadial) → LayerOk (taskIn f) (cutNumber f k) k before inCut l → Each k before inCut l
+  each-closed : (k before inCut : ℕ) (l : List VolumeRadial) → LayerOk (taskBlock f) (cutBlock f k) k before inCut l → Each k before inCut l
   each-closed k before inCut [] ok = tt
   each-closed k before inCut (b ∷ []) ok = (ok .0, tt)
   each-closed k before inCut (b ∷ (n ∷ ns)) ok = (ok .0, each-closed k (suc before) (suc inCut) (n ∷ ns) (ok .2))
 
-  each-unclosed : (k before inCut : ℕ) (l : List VolumeRadial) → UnclosedOk (taskIn f) (cutNumber f k) k before inCut l → Each k before inCut l
+  each-unclosed : (k before inCut : ℕ) (l : List VolumeRadial) → UnclosedOk (taskBlock f) (cutBlock f k) k before inCut l → Each k before inCut l
   each-unclosed k before inCut [] ok = tt
   each-unclosed k before inCut (b ∷ bs) ok = (ok .0, each-unclosed k (suc before) (suc inCut) bs (ok .2))
 
@@ -148,10 +148,10 @@ module _ (f : List ℕ) where
   -- the cuts from number k on, as they stand in the file
   abbrev CutsIn : ℕ → List Cut → Type 0
   CutsIn k [] = Unit {0}
-  CutsIn k (c ∷ cs) = (cutNumber f k ≡ c) × CutsIn (suc k) cs
+  CutsIn k (c ∷ cs) = (cutBlock f k ≡ c) × CutsIn (suc k) cs
 
   -- the closed layers, and what stands behind them
-  layers : (ls : List (List VolumeRadial)) (cs : List Cut) (k at : ℕ) (g : List ℕ) (before ss : List Stretch) → CutsIn k cs → LayersOk (taskIn f) k (length before) cs ls
+  layers : (ls : List (List VolumeRadial)) (cs : List Cut) (k at : ℕ) (g : List ℕ) (before ss : List Stretch) → CutsIn k cs → LayersOk (taskBlock f) k (length before) cs ls
       → At f at (run (run bytesOfRadial) ls ++ g) → NoneFrom k before
       → ((more : List Stretch) → length more ≡ length before + radialsIn ls → NoneFrom (k + length ls) more → At f (endsAt at ls) g → AllInPlace f more ss)
       → AllInPlace f before (layersStretches k at ls ++ ss)
@@ -160,11 +160,11 @@ module _ (f : List ℕ) where
   layers (l ∷ ls) [] k at g before ss ci ok a nf next = absurd ok
   layers (l ∷ ls) (c ∷ cs) k at g before ss ci ok a nf next =
       let later = layersStretches (suc k) (endOf at l) ls ++ ss in
-      let own = subst (λ (n : ℕ). LayerOk (taskIn f) (cutNumber f k) k (length before) n l) (sym (nf k (omega arith))) (subst (λ (x : Cut). LayerOk (taskIn f) x k (length before) 0 l) (sym (ci .0)) (ok .0)) in
+      let own = subst (λ (n : ℕ). LayerOk (taskBlock f) (cutBlock f k) k (length before) n l) (sym (nf k (omega arith))) (subst (λ (x : Cut). LayerOk (taskBlock f) x k (length before) 0 l) (sym (ci .0)) (ok .0)) in
       subst (AllInPlace f before) (sym (append-assoc (layerStretches k at l) (layersStretches (suc k) (endOf at l) ls) ss))
       (layer l k at (run (run bytesOfRadial) ls ++ g) before later (each-closed k (length before) (ofCut k before) l own)
       (subst (At f at) (append-assoc (run bytesOfRadial l) (run (run bytesOfRadial) ls) g) a) (λ j h. nf j (omega arith))
-      (λ more n h i. layers ls cs (suc k) (endOf at l) g more ss (ci .1) (subst (λ (x : ℕ). LayersOk (taskIn f) (suc k) x cs ls) (sym n) (ok .1)) i h
+      (λ more n h i. layers ls cs (suc k) (endOf at l) g more ss (ci .1) (subst (λ (x : ℕ). LayersOk (taskBlock f) (suc k) x cs ls) (sym n) (ok .1)) i h
       (λ m n′ h′ i′. next m (omega arith) (λ j q. h′ j (omega arith)) i′)))
 
   cuts-in : (cs : List Cut) (k at : ℕ) (g : List ℕ) → 1 ≤ k → at ≡ cutPlace k → CutsOk cs → At f at (run cutBytes cs ++ g) → CutsIn k cs × At f (at + 256 * length cs) g
@@ -181,7 +181,7 @@ module _ (f : List ℕ) where
 
   -- the blocks before the radials, as they stand in the file
   record Front (v : Volume) (rest : List ℕ) : Type 0 where
-    task : taskIn f ≡ v .task
+    task : taskBlock f ≡ v .task
     cuts : CutsIn 1 (v .cuts)
     radials : At f (firstPlace v) (run (run bytesOfRadial) (v .layers) ++ rest)
 
@@ -214,7 +214,7 @@ module _ (f : List ℕ) where
       let c = cuts-split (b .early) (b .cut ∷ b .later) 1 (x .cuts) in
       let n = same-number (b .task) 1 0 (b .early) (b .closed) (ok .closed) in
       let number : 1 + length (b .early) ≡ k = omega arith in
-      let own : cutNumber f k ≡ b .cut = ap (cutNumber f) (sym number) ∙ c .1 .0 in
+      let own : cutBlock f k ≡ b .cut = ap (cutBlock f) (sym number) ∙ c .1 .0 in
       let a = subst (At f at) (ap (λ (y : List ℕ). y ++ rest) (run-end (run bytesOfRadial) (b .closed) (b .now)) ∙ append-assoc (run (run bytesOfRadial) (b .closed)) (run bytesOfRadial (b .now)) rest) (x .radials) in
       subst (AllInPlace f []) (sym (stretches-end 1 at (b .closed) (b .now)))
       (layers (b .closed) (b .early) 1 at (run bytesOfRadial (b .now) ++ rest) [] (layerStretches k (endsAt at (b .closed)) (b .now)) (c .0)
@@ -222,8 +222,8 @@ module _ (f : List ℕ) where
       (λ more m h i. subst (AllInPlace f more) (append-nil (layerStretches k (endsAt at (b .closed)) (b .now)))
       (layer (b .now) k (endsAt at (b .closed)) rest more [] (each-unclosed k (length more) (ofCut k more) (b .now) (unclosed b ok k more (x .task) own (omega arith) (omega arith) (h k (omega arith)))) i (λ j q. h j (omega arith)) (λ more m h i. tt))))
     where
-      unclosed : (b : Begun) → BegunOk b → (k : ℕ) (more : List Stretch) → taskIn f ≡ b .task → cutNumber f k ≡ b .cut → suc (length (b .closed)) ≡ k → radialsIn (b .closed) ≡ length more → ofCut k more ≡ 0
-          → UnclosedOk (taskIn f) (cutNumber f k) k (length more) (ofCut k more) (b .now)
+      unclosed : (b : Begun) → BegunOk b → (k : ℕ) (more : List Stretch) → taskBlock f ≡ b .task → cutBlock f k ≡ b .cut → suc (length (b .closed)) ≡ k → radialsIn (b .closed) ≡ length more → ofCut k more ≡ 0
+          → UnclosedOk (taskBlock f) (cutBlock f k) k (length more) (ofCut k more) (b .now)
       unclosed b ok k more t c n m z = rw (t, c, z) (subst (λ (i : ℕ). UnclosedOk (b .task) (b .cut) k i 0 (b .now)) m (subst (λ (i : ℕ). UnclosedOk (b .task) (b .cut) i (radialsIn (b .closed)) 0 (b .now)) n (ok .now)))
 
   -- every whole radial of a file is in its own place

@@ -18,11 +18,11 @@ use Rattle.reading.specs.declared.Stretch.{Stretch}
 use Rattle.reading.specs.Tiling.{WholeRadial}
 
 -- the file's task block, and the block of its cut k ("Blocks")
-abbrev pub taskIn : List ℕ → Task
-taskIn f = taskAt f (genericSize + siteSize)
+abbrev pub taskBlock : List ℕ → Task
+taskBlock f = taskAt f (genericSize + siteSize)
 
-abbrev pub cutNumber : List ℕ → ℕ → Cut
-cutNumber f k = cutAt f (cutPlace k)
+abbrev pub cutBlock : List ℕ → ℕ → Cut
+cutBlock f k = cutAt f (cutPlace k)
 
 -- how many of some radials are of cut k
 abbrev pub ofCut : ℕ → List Stretch → ℕ
@@ -34,9 +34,9 @@ ofCut k (s ∷ ss) = cond (eqb (s .cut) k) 1 0 + ofCut k ss
 pub record InPlace (f : List ℕ) (before : List Stretch) (s : Stretch) : Type 0 where
   pub whole : WholeRadial f s
   pub against : whole .against
-      ≡ record { «scan_type» = taskIn f .«scan_type»; cuts = taskIn f .«cut_number»; cut = s .cut; before = length before; «in_cut» = ofCut (s .cut) before }
-  pub mask : whole .mask ≡ cutNumber f (s .cut) .«moments_mask»
-  pub sizes : whole .sizes ≡ cutNumber f (s .cut) .«size_mask»
+      ≡ record { «scan_type» = taskBlock f .«scan_type»; cuts = taskBlock f .«cut_number»; cut = s .cut; before = length before; «in_cut» = ofCut (s .cut) before }
+  pub mask : whole .mask ≡ cutBlock f (s .cut) .«moments_mask»
+  pub sizes : whole .sizes ≡ cutBlock f (s .cut) .«size_mask»
   pub end : s .end ≡ s .start + radialSize + radialAt f (s .start) .«length_of_data»
 
 -- each of some radials, behind those `before` (the nearest first)

@@ -25,17 +25,17 @@ use Rattle.task.specs.Task.{taskBytes, taskRules, TaskFits}
 
 -- ---- the structure
 
--- a moment: its header and its data
+-- a moment: its header and its data ("Blocks")
 pub record VolumeMoment : Type 0 where
   pub header : Moment
   pub bytes : List ℕ
 
--- a radial: its header and its moments
+-- a radial: its header and its moments ("Blocks")
 pub record VolumeRadial : Type 0 where
   pub header : Radial
   pub moments : List VolumeMoment
 
--- a layer for each cut: that cut's radials
+-- a volume: generic header, site, task, cuts, and a layer for each cut, that cut's radials ("Blocks")
 pub record Volume : Type 0 where
   pub generic : Generic
   pub site : Site
@@ -71,7 +71,8 @@ abbrev pub typesOf : List VolumeMoment → ℕ
 typesOf [] = 0
 typesOf (p ∷ ps) = withBit (typesOf ps) (p .header .«data_type»)
 
--- what a moment is judged against, behind the moments `before` of a radial of cut c: so many are still to come
+-- what a moment is judged against, behind the moments `before` of a radial of cut c (numbers 20, 23 and 24): its own cut's masks,
+-- their types, what they leave of the length of data, and how many are still to come
 abbrev pub judged : Cut → Radial → List VolumeMoment → MomentDue
 judged c r before =
     record { mask = c .«moments_mask»; sizes = c .«size_mask»; seen = typesOf before; left = r .«length_of_data» - tiled before; todo = r .«moment_number» - length before }
@@ -85,7 +86,8 @@ MomentsOk c r before (p ∷ ps) =
     × (length (p .bytes) ≡ p .header .length)
     × MomentsOk c r (p ∷ before) ps
 
--- what a radial of cut number k is judged against: `before` radials stand before it in the volume, `inCut` in its layer
+-- what a radial of cut number k is judged against (numbers 10 and 12 to 14): `before` radials stand before it in the volume,
+-- `inCut` in its layer
 abbrev pub judgedRadial : Task → ℕ → ℕ → ℕ → RadialDue
 judgedRadial t k before inCut =
     record { «scan_type» = t .«scan_type»; cuts = t .«cut_number»; cut = k; before = before; «in_cut» = inCut }
@@ -115,6 +117,7 @@ LayersOk t k before [] (l ∷ ls) = ⊥
 LayersOk t k before (c ∷ cs) [] = ⊥
 LayersOk t k before (c ∷ cs) (l ∷ ls) = LayerOk t c k before 0 l × LayersOk t (suc k) (before + length l) cs ls
 
+-- the blocks before the radials, each with its rules kept ("Field rules and refusal numbers")
 abbrev pub CutsOk : List Cut → Type 0
 CutsOk [] = Unit {0}
 CutsOk (c ∷ cs) = CutFits c × Hold (cutRules c) × CutsOk cs
@@ -128,7 +131,7 @@ SiteOk r = SiteFits r × Hold (siteRules r)
 abbrev pub TaskOk : Task → Type 0
 TaskOk r = TaskFits r × Hold (taskRules r)
 
--- the blocks before the radials, each with its rules kept, and as many cuts as the task says
+-- all of them, and as many cuts as the task says
 pub record Headed (v : Volume) : Type 0 where
   pub generic : GenericOk (v .generic)
   pub site : SiteOk (v .site)
