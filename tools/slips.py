@@ -15,15 +15,20 @@ import subprocess
 import sys
 
 OWN_CUT, FIRST_CUT = 'cut_place(w.count.cut)', 'cut_place(1)'
+OWN, FIRST = 'cutPlace (w .count .cut)', 'cutPlace 1'
 
 SLIPS = {
     # every radial judged by the masks of cut 1 (numbers 20 and 23)
     'masks_of_cut_one': [
-        ('crates/reading/specs/Step.antt', 'cutIn p w = cutAt p (cutPlace (w .count .cut))', 'cutIn p w = cutAt p (cutPlace 1)'),
-        ('crates/reading/proofs/Masks.antt', 'cutPlace (w .count .cut)', 'cutPlace 1'),
+        ('crates/reading/specs/Step.antt', f'cutIn p w = cutAt p ({OWN})', f'cutIn p w = cutAt p ({FIRST})'),
         ('crates/reading/src/step.rt', OWN_CUT, FIRST_CUT),
         ('crates/reading/src/whole.rt', OWN_CUT, FIRST_CUT),
         ('crates/writer/src/on.rt', OWN_CUT, FIRST_CUT),
+        ('crates/reading/proofs/Masks.antt', OWN, FIRST),
+        ('crates/writer/proofs/Again.antt', OWN, FIRST),
+        ('crates/writer/proofs/EachKind.antt', OWN, FIRST),
+        ('crates/writer/proofs/Places.antt', OWN, FIRST),
+        ('crates/writer/proofs/on/radial_on/Proof.antt', OWN, FIRST),
     ],
     # the sequence counted from the cut's start (number 12)
     'sequence_from_the_cut': [
