@@ -1,22 +1,22 @@
 #!/usr/bin/env python3
-"""What the program `questions` prints: document 01's answers on the volume `rich`, and on
+"""What the program `questions` prints: the answers of documents 01 and 02 on the volume `rich`, and on
 shortened and damaged copies of it.
 
     python3 tools/volumes.py rich > crates/questions/stdin
     python3 tools/questions_expected.py > crates/questions/stdout
 
 The stored output was worked out here, by the reference reader, which was written from the
-document's text alone; nothing in it comes from the program. A section for each copy:
+documents' text alone; nothing in it comes from the program. A section for each copy:
 
     radial N: place, state, sequence, elevation number
     moments N: for each type, scale/offset/bin length/length/bytes of data/first/last byte
     gates N: for each type, what is told of gate 2**64 - 1/checksum of the answers for
         gates 0 to 19
     rows N: for each type, gates/last place of both rooms/checksum of all 16 places of both
-    tallies C: for each type, radials/six counts
+    tallies C: for each type, radials/seven counts
 
 and after the whole volume's, each gate of some moments (kind, difference, scale, hundredths,
-the float's bits), some gates in words, and rows in short rooms. A refusal is `no` and its number.
+the float's bits or the class), some gates in words, and rows in short rooms. A refusal is `no` and its number.
 """
 import struct
 import sys
@@ -25,7 +25,7 @@ sys.dont_write_bytecode = True
 import reference as ref
 import volumes
 
-TYPES = [*range(9), 63, 64, 65]
+TYPES = [*range(9), *range(13, 17), 63, 64, 65]
 ROOM, KIND_MARK, HUNDREDTHS_MARK = 16, 9, 7
 PRIME = 65521
 
@@ -65,10 +65,10 @@ def bits(value):
 
 
 def told(g):
-    """(kind, difference, scale, hundredths, the float's bits): zeros where there is no value."""
-    if g.kind < 5:
-        return g.kind, 0, 0, 0, 0
-    return g.kind, g.numerator, g.denominator, g.hundredths, bits(g.value)
+    """(kind, difference, scale, hundredths, the float's bits or the class): zeros for what a gate has not."""
+    if g.kind == 5:
+        return g.kind, g.numerator, g.denominator, g.hundredths, bits(g.value)
+    return g.kind, 0, 0, 0, g.code or 0
 
 
 def gate_numbers(answer):
@@ -102,7 +102,10 @@ REFUSAL_WORDS = {30: 'nothing yet: no such whole radial', 31: 'no such moment in
 
 def in_words(r, n, t, i):
     answer = r.gate(n, t, i)
-    said = REFUSAL_WORDS[answer[1]] if is_refused(answer) else KIND_WORDS[answer.kind]
+    if is_refused(answer):
+        said = REFUSAL_WORDS[answer[1]]
+    else:
+        said = KIND_WORDS[answer.kind] if answer.kind < 6 else f'class {answer.code}'
     return f'in words {n} {t} {i}: {said}'
 
 
@@ -170,9 +173,10 @@ def section(label, data):
 def whole(data):
     r = ref.read(data)
     yield from section('whole', data)
-    for n, t in (1, 1), (1, 2), (1, 3), (4, 64), (4, 63), (8, 4), (0, 1), (9, 1), (1, 4):
+    for n, t in ((1, 1), (1, 2), (1, 3), (4, 64), (4, 63), (8, 4), (7, 13), (7, 14), (8, 15), (8, 16),
+                 (0, 1), (9, 1), (1, 4)):
         yield from each_gate(r, n, t)
-    for n, t, i in *((1, 1, i) for i in range(6)), (1, 1, 19), (1, 4, 0):
+    for n, t, i in *((1, 1, i) for i in range(6)), (7, 14, 5), (8, 15, 3), (8, 15, 7), (1, 1, 19), (1, 4, 0):
         yield in_words(r, n, t, i)
     yield in_words(ref.read(data[:1200]), 1, 1, 0)
     for asked in (1, 2, 13, 13), (1, 2, 12, 13), (1, 2, 13, 12), (1, 2, 0, 0), (9, 2, 0, 0), (1, 4, 0, 0):

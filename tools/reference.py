@@ -1,5 +1,5 @@
 #!/usr/bin/env python3
-"""Reference reader and writer of base data volumes, after document 01.
+"""Reference reader and writer of base data volumes, after documents 01 and 02.
 
 Written from the text alone, to work out what the library and the listing
 program must answer. Slow and plain on purpose.
@@ -187,8 +187,8 @@ Block = namedtuple('Block', 'kind place end')
 Radial = namedtuple('Radial', 'sequence place end state cut moments')
 Moment = namedtuple('Moment', 'type header_place place length bin_length scale offset')
 # kind 0 below threshold, 1 range folded, 2 not scanned, 3 unknown, 4 reserved;
-# 5 is a value: float, exact fraction (not reduced), hundredths
-Gate = namedtuple('Gate', 'kind value numerator denominator hundredths')
+# 5 is a value: float, exact fraction (not reduced), hundredths; 6 is a class: its raw code
+Gate = namedtuple('Gate', 'kind value numerator denominator hundredths code', defaults=[None] * 5)
 Tally = namedtuple('Tally', 'radials kinds')
 
 
@@ -300,7 +300,7 @@ class Reading:
             return refused(32)
         start = m.place + i * m.bin_length
         code = int.from_bytes(self.data[start:start + m.bin_length], 'little')
-        return gate_of(code, m.scale, m.offset)
+        return gate_of(code, m.scale, m.offset, m.type)
 
     def gates(self, n, t):
         """All gates of a moment that is there."""
@@ -321,10 +321,10 @@ class Reading:
         return len(gates)
 
     def tally(self, cut, t):
-        """Whole radials of the cut that carry the type, and their six kinds of gate."""
+        """Whole radials of the cut that carry the type, and their seven kinds of gate."""
         if not 1 <= cut <= len(self.cuts):
             return refused(30)
-        radials, kinds = 0, [0] * 6
+        radials, kinds = 0, [0] * 7
         for r in self.radials:
             if r.cut == cut and any(m.type == t for m in r.moments):
                 radials += 1
@@ -333,10 +333,15 @@ class Reading:
         return Tally(radials, kinds) if radials else refused(31)
 
 
-def gate_of(code, scale, offset):
-    """What a code says: five special codes, or a value."""
+CLASSES = (14, 15)             # document 02, #101: HCL and CF are classes and flags
+
+
+def gate_of(code, scale, offset, type):
+    """What a code says: five special codes, a class for two types, else a value."""
     if code < 5:
-        return Gate(code, None, None, None, None)
+        return Gate(code)
+    if type in CLASSES:
+        return Gate(6, code=code)
     n = code - offset
     return Gate(5, float(n) / float(scale), n, scale, hundredths_of(n, scale))
 

@@ -122,7 +122,8 @@ def small_spec():
 def rich_spec():
     """Scan type 0, three cuts, one- and two-byte gates, all special codes, several
     moments in a radial in changing order, a type that some radials lack, types 1 and
-    64 (both ends of the masks), odd contents in every field that has no rule."""
+    64 (both ends of the masks), classes in one and two bytes (types 14 and 15) between
+    measurements (13 and 16), odd contents in every field that has no rule."""
     one = bytes([0, 1, 2, 3, 4, 5, 66, 129, 130, 131, 255])
     two = words(0, 1, 2, 3, 4, 5, 256, 261, 512, 1024, 32767, 32768, 65535)   # 256: low byte 0
     t1 = moment(1, one)
@@ -136,9 +137,13 @@ def rich_spec():
     t63 = moment(63, bytes([99, 100, 101, 2, 0]), scale=8, offset=100)
     second = cut([radial(t64, t63), radial(t63, elevation=b'\0\0\0\x80')],
                  mask(63, 64), mask(62, 64))
+    t13, t14 = moment(13, one[:7]), moment(14, one, offset=5)
+    t15 = moment(15, words(0, 1, 2, 3, 4, 5, 256, 300, 65535), scale=16, offset=130)
+    t16 = moment(16, words(3, 5, 300))
     third = cut([
-        radial(moment(3, [0])), radial(moment(3, [2]), moment(4, words(261))),
-        radial(moment(4, words(2, 0, 5), scale=100, offset=5))], mask(3, 4), mask(4))
+        radial(moment(3, [0])), radial(moment(3, [2]), moment(4, words(261)), t14, t13),
+        radial(moment(4, words(2, 0, 5), scale=100, offset=5), t15, t16, moment(14, [4, 5, 9]))],
+        mask(3, 4, 13, 14, 15, 16), mask(4, 15, 16))
     return volume([first, second, third], fill=3)
 
 
@@ -209,12 +214,12 @@ def rhi(scan_type):
 def check():
     """Document 01, "Numbers to try", line by line."""
     def value(code, scale, offset):
-        g = ref.gate_of(code, scale, offset)
+        g = ref.gate_of(code, scale, offset, 2)
         return g.numerator, g.denominator, g.hundredths
 
     for code in range(5):
-        assert ref.gate_of(code, 2, 66).kind == code
-    assert value(5, 2, 66) == (-61, 2, -3050) and ref.gate_of(5, 2, 66).value == -30.5
+        assert all(ref.gate_of(code, 2, 66, t).kind == code for t in range(1, 65))
+    assert value(5, 2, 66) == (-61, 2, -3050) and ref.gate_of(5, 2, 66, 2).value == -30.5
     assert value(66, 2, 66) == (0, 2, 0) and value(255, 2, 66) == (189, 2, 9450)
     assert value(129, 16, 130) == (-1, 16, -6) and value(131, 16, 130) == (1, 16, 6)
     assert value(101, 8, 100)[2] == 13 and value(99, 8, 100)[2] == -13

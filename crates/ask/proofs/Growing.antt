@@ -132,4 +132,5 @@ no-fewer a b =
       unknown = omega arith;
       reserved = omega arith;
       value = omega arith;
+      class = omega arith;
     }

@@ -1,4 +1,5 @@
 pub mod Asked
+pub mod Counted
 pub mod Growing
 pub mod Grown
 pub mod Sounding

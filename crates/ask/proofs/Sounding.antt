@@ -149,10 +149,14 @@ stands f n t s p e = go (nth (stretches f) n) refl
         let i = in-stretch x s _ p y in
         record { radial = q ∙ ap found.There (i .0); moment = rw (i .0) at (i .1) }
 
+pub whole-sound : (f : List ℕ) (t : ℕ) (s : Stretch) (p : ℕ) → WholeRadial f s → Placed f s → findIn (bytesOf f s) t (momentsOf (bytesOf f s)) ≡ moment.the-variants.At p
+    → Sound (bytesOf f s) p
+whole-sound f t s p w h m =
+    found-sound f s h t (w .mask) (w .sizes) _ 64 p (s .start + 64) 0 _ refl (w .moments)
+    (ap (λ (x : Radial). findIn (bytesOf f s) t (momentsFrom (x .«moment_number») (bytesOf f s) 64)) (sym (own-radial f s h)) ∙ m)
+
 pub sound : (f : List ℕ) (n t : ℕ) (s : Stretch) (p : ℕ) → whereIs f n t ≡ At s p → Sound (bytesOf f s) p
 sound f n t s p e =
     let a = stands f n t s p e in
     let w = nth-of (AllWhole f) (WholeRadial f) (λ x l h. h) (stretches f) n s (all-whole f) (a .radial) in
-    let h = nth-placed f n s (a .radial) in
-    found-sound f s h t (w .mask) (w .sizes) _ 64 p (s .start + 64) 0 _ refl (w .moments)
-    (ap (λ (x : Radial). findIn (bytesOf f s) t (momentsFrom (x .«moment_number») (bytesOf f s) 64)) (sym (own-radial f s h)) ∙ a .moment)
+    whole-sound f t s p w (nth-placed f n s (a .radial)) (a .moment)

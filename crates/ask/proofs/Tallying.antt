@@ -41,6 +41,7 @@ added-assoc a b c =
             unknown = add-assoc (a .counts .unknown) (b .counts .unknown) (c .counts .unknown) i;
             reserved = add-assoc (a .counts .reserved) (b .counts .reserved) (c .counts .reserved) i;
             value = add-assoc (a .counts .value) (b .counts .value) (c .counts .value) i;
+            class = add-assoc (a .counts .class) (b .counts .class) (c .counts .class) i;
           };
     }
 
@@ -57,6 +58,7 @@ none-added a =
             unknown = zero-add (a .counts .unknown) i;
             reserved = zero-add (a .counts .reserved) i;
             value = zero-add (a .counts .value) i;
+            class = zero-add (a .counts .class) i;
           };
     }
 
@@ -73,6 +75,7 @@ added-none a =
             unknown = add-zero (a .counts .unknown) i;
             reserved = add-zero (a .counts .reserved) i;
             value = add-zero (a .counts .value) i;
+            class = add-zero (a .counts .class) i;
           };
     }
 

@@ -31,6 +31,7 @@ pub record NoFewer (a b : Tally) : Type 0 where
   pub unknown : a .counts .unknown ≤ b .counts .unknown
   pub reserved : a .counts .reserved ≤ b .counts .reserved
   pub value : a .counts .value ≤ b .counts .value
+  pub class : a .counts .class ≤ b .counts .class
 
 -- what is answered of a radial that is whole in A is answered of the longer file
 pub record Kept (A C : List ℕ) (n : ℕ) : Type 0 where

@@ -4,3 +4,4 @@ pub mod Tallies
 pub mod Growth
 pub mod Sound
 pub mod Asked
+pub mod Counted

@@ -36,6 +36,7 @@ fn none() -> Tally
             unknown: 0,
             reserved: 0,
             value: 0,
+            class: 0,
         },
     }
 }
@@ -77,6 +78,7 @@ fn plus(a: Tally, b: Tally) -> Tally
             unknown: x.unknown + y.unknown,
             reserved: x.reserved + y.reserved,
             value: x.value + y.value,
+            class: x.class + y.class,
         },
     }
 }

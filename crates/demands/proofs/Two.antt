@@ -1,7 +1,6 @@
 -- Demand 2, by citing the crates that hold each of its parts. Assumes nothing.
-use mathlib.Core.Path.{_≡_, refl, ap}
-use Prim.Native.Nat.{ℕ, zero, suc, _<_}
-use native.Mathlib.Omega.{arith}
+use mathlib.Core.List.{[], _∷_, map}
+use mathlib.Core.Path.{_≡_, refl}
 use Rattle.rules.proofs.Judged.{all-hold, fine-if, first-decides, decided-first}
 use Rattle.cut.proofs.Trips as cut
 use Rattle.generic.proofs.Trips as generic
@@ -10,16 +9,16 @@ use Rattle.radial.proofs.Trips as radial
 use Rattle.site.proofs.Trips as site
 use Rattle.task.proofs.Trips as task
 use Rattle.gates.specs.declared.Coding.{Coding}
-use Rattle.gates.specs.declared.Gate.{Gate}
-use Rattle.gates.specs.declared.Told.{Told}
-use Rattle.gates.specs.Gates.{kindOf, gateOf, toldGate}
-use Rattle.gates.proofs.Gates.{gate-value, told-value, told-other}
+use Rattle.gates.specs.declared.Gate.the-variants.{BelowThreshold, RangeFolded, NotScanned, Unknown, Reserved}
+use Rattle.gates.specs.Gates.{gateOf}
+use Rattle.gates.proofs.Gates.{classes-only, no-measurement, special-told, value-told, class-told, value-kind, class-kind}
 use Rattle.gates.proofs.Exact.{lossless}
 use Rattle.gates.proofs.Nearest.{hundredths-near}
 use Rattle.reading.proofs.Exactly.{told-exactly}
 use Rattle.volume.proofs.Meaning.{means}
 use Rattle.volume.proofs.Placed.{in-place}
 use Rattle.volume.proofs.Sense.{sense}
+use Rattle.ask.proofs.Counted.{counted}
 use Rattle.ask.proofs.Sounding.{sound}
 use Rattle.index.proofs.Same.{right-only, right-when}
 use Rattle.writer.proofs.Again.{same-block}
@@ -36,28 +35,20 @@ refused-exactly = record { fine = all-hold; holds = fine-if; refused = decided-f
 whole-radials : WholeRadials
 whole-radials = record { radials = in-place; moments = sound }
 
-special : (c : Coding) (code : ℕ) → code < 5 → kindOf c code ≡ code
+names : (c : Coding) → map (gateOf c) (0 ∷ 1 ∷ 2 ∷ 3 ∷ 4 ∷ []) ≡ BelowThreshold ∷ RangeFolded ∷ NotScanned ∷ Unknown ∷ Reserved ∷ []
 unfolding gateOf
-special c zero h = refl
-special c (suc zero) h = refl
-special c (suc (suc zero)) h = refl
-special c (suc (suc (suc zero))) h = refl
-special c (suc (suc (suc (suc zero)))) h = refl
-special c (suc (suc (suc (suc (suc n))))) h = absurd (omega arith)
-
-not-value : (c : Coding) (code : ℕ) → code < 5 → kindOf c code ≡ 5 → ⊥
-not-value c code h k = let s = special c code h in omega arith
+names c = refl
 
 codes : Codes
 codes =
     record {
-      special = special;
-      bare = λ c code h.
-          let e = told-other c code (not-value c code h) in
-          (ap (λ (t : Told). t .difference) e, (ap (λ (t : Told). t .scale) e, ap (λ (t : Told). t .hundredths) e));
-      value = λ c code h.
-          let g = gate-value c code h in
-          rw (← g) (told-value c code (ap (λ (x : Gate). toldGate x .0) g));
+      types = λ t. (classes-only t, no-measurement t);
+      names = names;
+      special = special-told;
+      value = value-told;
+      class = class-told;
+      value-kind = value-kind;
+      class-kind = class-kind;
       float = lossless;
       hundredths = hundredths-near;
     }
@@ -101,6 +92,7 @@ demand-two =
       exactly = refused-exactly;
       radials = whole-radials;
       codes = codes;
+      tallies = counted;
       trips = trips;
       writing = writing;
       index = index-right;

@@ -1,6 +1,7 @@
--- DEMAND 2: reading means what the standard says, as document 01 settles it.
-use mathlib.Core.Bool.{true}
-use mathlib.Core.List.{List, [], _∷_}
+-- DEMAND 2: reading means what the standard says, as document 01 settles it, and document 02 after it.
+use mathlib.Core.Bool.{true, false}
+use mathlib.Core.List.{List, [], _∷_, map}
+use mathlib.Core.Logic.{_⊎_}
 use mathlib.Core.Path.{_≡_}
 use Prim.Native.Nat.{ℕ, _<_, _≤_}
 use lib.IntN.{pos}
@@ -21,8 +22,8 @@ use Rattle.radial.specs.Radial.{radialOf, radialBytes, RadialFits, radialSize}
 use Rattle.site.specs.Site.{siteOf, siteBytes, SiteFits, siteSize}
 use Rattle.task.specs.Task.{taskOf, taskBytes, TaskFits, taskSize}
 use Rattle.gates.specs.declared.Coding.{Coding}
-use Rattle.gates.specs.declared.Gate.the-variants.{Value}
-use Rattle.gates.specs.Gates.{kindOf, toldOf, differenceOf, floatOf, hundredthsOf}
+use Rattle.gates.specs.declared.Gate.the-variants.{BelowThreshold, RangeFolded, NotScanned, Unknown, Reserved, Value, Class}
+use Rattle.gates.specs.Gates.{isMeasurement, gateOf, nothing, kindOf, toldOf, valuesOf, differenceOf, floatOf, hundredthsOf}
 use Rattle.gates.specs.Exact.{Lossless}
 use Rattle.gates.specs.Nearest.{Nearest}
 use Rattle.reading.specs.declared.Stretch.{Stretch}
@@ -33,6 +34,7 @@ use Rattle.volume.specs.InPlace.{AllInPlace}
 use Rattle.volume.specs.Meaning.{Means}
 use Rattle.volume.specs.Sense.{Sense}
 use Rattle.ask.specs.declared.places.Where.the-variants.{At}
+use Rattle.ask.specs.Counted.{Counted}
 use Rattle.ask.specs.Places.{whereIs}
 use Rattle.ask.specs.Sound.{Sound}
 use Rattle.index.specs.Answer.{rightFor}
@@ -68,15 +70,30 @@ pub record WholeRadials : Type 0 where
   pub radials : (f : List ℕ) → Bytes f → AllInPlace f [] (stretches f)
   pub moments : (f : List ℕ) (n t : ℕ) (s : Stretch) (p : ℕ) → whereIs f n t ≡ At s p → Sound (bytesOf f s) p
 
--- the five special codes stay five, with nothing but their kind; any other code is exactly (code less offset) over scale, whose
--- float is one quotient of two floats that are exactly these two whole numbers, for every code, offset and scale of 16 bits
+-- every type is a measurement but 14 (HCL) and 15 (CF). The five special codes stay five for every type, with nothing but
+-- their kind. Where the type is a measurement, any other code is a value, of kind 5: exactly (code less offset) over scale, whose
+-- float is one quotient of two floats that are exactly these two whole numbers, for every code, offset and scale of 16 bits.
+-- Where it is none, any other code is a class, of kind 6, that carries the raw code, with zeros beside it as beside a special
+-- code. There are no other values and no other classes
 pub record Codes : Type 0 where
-  pub special : (c : Coding) (code : ℕ) → code < 5 → kindOf c code ≡ code
-  pub bare : (c : Coding) (code : ℕ) → code < 5 → (toldOf c code .difference ≡ pos 0) × ((toldOf c code .scale ≡ 0) × (toldOf c code .hundredths ≡ pos 0))
-  pub value : (c : Coding) (code : ℕ) → 5 ≤ code
+  pub types : (t : ℕ) → (isMeasurement t ≡ false → (t ≡ 14) ⊎ (t ≡ 15)) × ((t ≡ 14) ⊎ (t ≡ 15) → isMeasurement t ≡ false)
+  pub names : (c : Coding) → map (gateOf c) (0 ∷ 1 ∷ 2 ∷ 3 ∷ 4 ∷ []) ≡ BelowThreshold ∷ RangeFolded ∷ NotScanned ∷ Unknown ∷ Reserved ∷ []
+  pub special : (c : Coding) (code : ℕ) → code < 5 → valuesOf (toldOf c code) ≡ record { gate = (code, nothing); difference = pos 0; scale = 0; hundredths = pos 0 }
+  pub value : (c : Coding) (code : ℕ) → isMeasurement (c .«data_type») ≡ true → 5 ≤ code
       → toldOf c code ≡ record { gate = Value (floatOf c code); difference = differenceOf c code; scale = c .scale; hundredths = hundredthsOf c code }
+  pub class : (c : Coding) (code : ℕ) → isMeasurement (c .«data_type») ≡ false → 5 ≤ code
+      → toldOf c code ≡ record { gate = Class code; difference = pos 0; scale = 0; hundredths = pos 0 }
+  pub value-kind : (c : Coding) (code : ℕ)
+      → (kindOf c code ≡ 5 → (isMeasurement (c .«data_type») ≡ true) × (5 ≤ code)) × (isMeasurement (c .«data_type») ≡ true → 5 ≤ code → kindOf c code ≡ 5)
+  pub class-kind : (c : Coding) (code : ℕ)
+      → (kindOf c code ≡ 6 → (isMeasurement (c .«data_type») ≡ false) × (5 ≤ code)) × (isMeasurement (c .«data_type») ≡ false → 5 ≤ code → kindOf c code ≡ 6)
   pub float : (c : Coding) (code : ℕ) → code < 65536 → c .offset < 65536 → c .scale < 65536 → Lossless c code
   pub hundredths : (c : Coding) (code : ℕ) → 0 < c .scale → Nearest (differenceOf c code) (c .scale) (hundredthsOf c code)
+
+-- a tally counts what the gate question answers, each gate once, by its kind: the seven counts of a radial add up to its gates,
+-- and those of a tally to the gates of its radials; a class is counted as a class alone
+abbrev pub Tallies : Type 0
+Tallies = (f : List ℕ) (cut t : ℕ) → Counted f cut t
 
 -- a record written and read again is the same record; a block's bytes read and written again are the same bytes
 pub record Trips : Type 0 where
@@ -116,6 +133,7 @@ pub record DemandTwo : Type 0 where
   pub exactly : RefusedExactly
   pub radials : WholeRadials
   pub codes : Codes
+  pub tallies : Tallies
   pub trips : Trips
   pub writing : Writing
   pub index : IndexRight

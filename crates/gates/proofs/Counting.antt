@@ -6,15 +6,16 @@ use Prim.Native.Nat.{ℕ, zero, suc, _+_, _<_}
 use native.Mathlib.Nat.{add-assoc, zero-add}
 use native.Mathlib.Numerals.{add-one}
 use native.Mathlib.Omega.{arith}
+use borrow.Author.Tests.{ne-eqb}
 use lib.Dec.{eqb}
 use lib.ListN.{length, getD, take}
 use lib.Seq.{take-suc}
 use Rattle.gates.specs.declared.Coding.{Coding}
 use Rattle.gates.specs.Gates.{gateOf, kindOf}
-use Rattle.gates.specs.Counting.{countOf, countsOf, summed, totalOf}
+use Rattle.gates.specs.Counting.{countOf, countsOf, inOrder, summed, totalOf}
 use Rattle.gates.proofs.Gates.{kind-lt}
 
-count-append : (k : ℕ) (a b : List ℕ) → countOf k (a ++ b) ≡ countOf k a + countOf k b
+pub count-append : (k : ℕ) (a b : List ℕ) → countOf k (a ++ b) ≡ countOf k a + countOf k b
 unfolding countOf
 count-append k [] b = sym (zero-add (countOf k b))
 count-append k (x ∷ a) b = rw (count-append k a b) (sym (add-assoc (cond (eqb x k) 1 0) (countOf k a) (countOf k b)))
@@ -30,8 +31,25 @@ counts-turn c codes i h =
     let next = getD codes i 0 ∷ [] in
     rw (add-one i, take-suc codes i 0 h, map-append (kindOf c) here next) (sym (counts-append (map (kindOf c) here) (map (kindOf c) next)))
 
+-- a count for each kind, in their order
+pub in-order : (kinds : List ℕ) (k : ℕ) → k < 7 → getD (inOrder (countsOf kinds)) k 0 ≡ countOf k kinds
+in-order kinds zero h = refl
+in-order kinds (suc zero) h = refl
+in-order kinds (suc (suc zero)) h = refl
+in-order kinds (suc (suc (suc zero))) h = refl
+in-order kinds (suc (suc (suc (suc zero)))) h = refl
+in-order kinds (suc (suc (suc (suc (suc zero))))) h = refl
+in-order kinds (suc (suc (suc (suc (suc (suc zero)))))) h = refl
+in-order kinds (suc (suc (suc (suc (suc (suc (suc n))))))) h = absurd (omega arith)
+
+-- a kind that no code has is not counted
+pub count-none : (c : Coding) (k : ℕ) (codes : List ℕ) → ((code : ℕ) → kindOf c code ≡ k → ⊥) → countOf k (map (kindOf c) codes) ≡ 0
+unfolding countOf
+count-none c k [] no-code = refl
+count-none c k (x ∷ codes) no-code = rw (ne-eqb (kindOf c x) k (no-code x), count-none c k codes no-code)
+
 -- a kind is counted once
-once : (k : ℕ) → k < 6 → totalOf (countsOf (k ∷ [])) ≡ 1
+once : (k : ℕ) → k < 7 → totalOf (countsOf (k ∷ [])) ≡ 1
 unfolding countOf
 once zero h = refl
 once (suc zero) h = refl
@@ -39,9 +57,10 @@ once (suc (suc zero)) h = refl
 once (suc (suc (suc zero))) h = refl
 once (suc (suc (suc (suc zero)))) h = refl
 once (suc (suc (suc (suc (suc zero))))) h = refl
-once (suc (suc (suc (suc (suc (suc n)))))) h = absurd (omega arith)
+once (suc (suc (suc (suc (suc (suc zero)))))) h = refl
+once (suc (suc (suc (suc (suc (suc (suc n))))))) h = absurd (omega arith)
 
--- every gate is counted once: the six counts add up to the number of codes
+-- every gate is counted once: the seven counts add up to the number of codes
 pub counts-all : (c : Coding) (codes : List ℕ) → totalOf (countsOf (map (kindOf c) codes)) ≡ length codes
 unfolding countOf
 counts-all c [] = refl

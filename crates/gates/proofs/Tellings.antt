@@ -1,26 +1,26 @@
 -- Each telling of an answer is one-to-one: the answer can be found again from it, so two answers that are told alike are
 -- one. Assumes nothing.
 use mathlib.Core.Path.{_≡_, refl, ap}
-use mathlib.Core.List.{List, [], _∷_}
+use mathlib.Core.List.{[], _∷_}
 use mathlib.Mathlib.Logic.Function.Defs.{LeftInverse·injective}
 use Prim.Native.Nat.{ℕ}
 use lib.ListN.{getD}
-use lib.Ieee.{Float}
 use Rattle.gates.specs.declared.Gate.{Gate}
-use Rattle.gates.specs.declared.Gate.the-variants.{BelowThreshold, RangeFolded, NotScanned, Unknown, Reserved, Value}
+use Rattle.gates.specs.declared.Gate.the-variants.{BelowThreshold, RangeFolded, NotScanned, Unknown, Reserved, Value, Class}
 use Rattle.gates.specs.declared.RowAnswer.{RowAnswer}
 use Rattle.gates.specs.declared.RowAnswer.the-variants.{Filled, Refused}
 use Rattle.gates.specs.declared.Told.{Told}
-use Rattle.gates.specs.Gates.{toldGate, Values, valuesOf}
+use Rattle.gates.specs.Gates.{Carried, nothing, its-float, its-code, toldGate, Values, valuesOf}
 use Rattle.gates.specs.Rows.{toldRow}
 use Rattle.gates.specs.Telling.{Telling, refused, answered}
 
-gateFound : ℕ × List Float → Gate
+gateFound : ℕ × Carried → Gate
 gateFound t = go (t .1)
   where
-    go : List Float → Gate
-    go [] = getD (BelowThreshold ∷ RangeFolded ∷ NotScanned ∷ Unknown ∷ []) (t .0) Reserved
-    go (x ∷ xs) = Value x
+    go : Carried → Gate
+    go nothing = getD (BelowThreshold ∷ RangeFolded ∷ NotScanned ∷ Unknown ∷ []) (t .0) Reserved
+    go (its-float x) = Value x
+    go (its-code code) = Class code
 
 gate-back : (g : Gate) → gateFound (toldGate g) ≡ g
 unfolding gateFound
@@ -30,6 +30,7 @@ gate-back NotScanned = refl
 gate-back Unknown = refl
 gate-back Reserved = refl
 gate-back (Value x) = refl
+gate-back (Class code) = refl
 
 pub told-gate-one : (g h : Gate) → toldGate g ≡ toldGate h → g ≡ h
 told-gate-one = LeftInverse·injective gateFound toldGate gate-back

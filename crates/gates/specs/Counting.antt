@@ -1,4 +1,4 @@
--- The six counts of a tally (document 01, "What reading tells").
+-- The seven counts of a tally (document 01, "What reading tells").
 use mathlib.Core.Bool.{cond}
 use mathlib.Core.List.{List, [], _∷_}
 use Prim.Native.Nat.{ℕ, _+_}
@@ -19,7 +19,12 @@ countsOf kinds = record {
   unknown = countOf 3 kinds;
   reserved = countOf 4 kinds;
   value = countOf 5 kinds;
+  class = countOf 6 kinds;
 }
+
+-- the counts in the order of the kinds
+abbrev pub inOrder : Counts → List ℕ
+inOrder a = a .below ∷ a .folded ∷ a .«not_scanned» ∷ a .unknown ∷ a .reserved ∷ a .value ∷ a .class ∷ []
 
 -- two counts, added field by field
 abbrev pub summed : Counts → Counts → Counts
@@ -30,8 +35,9 @@ summed a b = record {
   unknown = a .unknown + b .unknown;
   reserved = a .reserved + b .reserved;
   value = a .value + b .value;
+  class = a .class + b .class;
 }
 
 -- how many gates were counted
 abbrev pub totalOf : Counts → ℕ
-totalOf a = a .below + a .folded + a .«not_scanned» + a .unknown + a .reserved + a .value
+totalOf a = a .below + a .folded + a .«not_scanned» + a .unknown + a .reserved + a .value + a .class

@@ -1,15 +1,19 @@
 -- What a gate's code says (document 01, "What reading tells"). Each definition has the whole coding, the type with it.
 use Prim.Native.Nat.{ℕ, suc, _+_, _*_, _/_}
-use mathlib.Core.Bool.{Bool, cond}
-use mathlib.Core.List.{List, [], _∷_}
+use mathlib.Core.Bool.{Bool, cond, not, _||_}
+use mathlib.Core.List.{[], _∷_}
 use lib.Dec.{eqb}
 use lib.ListN.{getD}
 use lib.IntN.{ℤ, pos, negsuc, negℤ, _-ℤ_}
 use lib.Ieee.{Float, binary64, div, ofInt}
 use Rattle.gates.specs.declared.Coding.{Coding}
 use Rattle.gates.specs.declared.Gate.{Gate}
-use Rattle.gates.specs.declared.Gate.the-variants.{BelowThreshold, RangeFolded, NotScanned, Unknown, Reserved, Value}
+use Rattle.gates.specs.declared.Gate.the-variants.{BelowThreshold, RangeFolded, NotScanned, Unknown, Reserved, Value, Class}
 use Rattle.gates.specs.declared.Told.{Told}
+
+-- whether the codes of a type are measurements: those of types 14 (HCL) and 15 (CF) are classes and flags
+unfoldable pub isMeasurement : ℕ → Bool
+isMeasurement t = not (eqb t 14 || eqb t 15)
 
 -- the fraction's upper number, the code less the offset
 abbrev pub differenceOf : Coding → ℕ → ℤ
@@ -19,18 +23,29 @@ differenceOf c code = pos code -ℤ pos (c .offset)
 unfoldable pub floatOf : Coding → ℕ → Float
 floatOf c code = div binary64 (ofInt binary64 (differenceOf c code)) (ofInt binary64 (pos (c .scale)))
 
--- the five special codes 0 to 4 in their order; any other code is a value with its float
-unfoldable pub gateOf : Coding → ℕ → Gate
-gateOf c code = getD (BelowThreshold ∷ RangeFolded ∷ NotScanned ∷ Unknown ∷ Reserved ∷ []) code (Value (floatOf c code))
+-- a code that is not special: a value with its float where the type is a measurement, a class with the raw code where not
+unfoldable pub otherOf : Coding → ℕ → Gate
+otherOf c code = cond (isMeasurement (c .«data_type»)) (Value (floatOf c code)) (Class code)
 
--- the number by which a row shows each case, and what it carries: a value its float
-abbrev pub toldGate : Gate → ℕ × List Float
-toldGate BelowThreshold = (0, [])
-toldGate RangeFolded = (1, [])
-toldGate NotScanned = (2, [])
-toldGate Unknown = (3, [])
-toldGate Reserved = (4, [])
-toldGate (Value x) = (5, x ∷ [])
+-- the five special codes 0 to 4 in their order, of every type; then any other code
+unfoldable pub gateOf : Coding → ℕ → Gate
+gateOf c code = getD (BelowThreshold ∷ RangeFolded ∷ NotScanned ∷ Unknown ∷ Reserved ∷ []) code (otherOf c code)
+
+-- what a gate carries beside its kind
+pub data Carried : Type 0 where
+  nothing : Carried
+  its-float : Float → Carried
+  its-code : ℕ → Carried
+
+-- the number by which a row shows each case, and what it carries
+abbrev pub toldGate : Gate → ℕ × Carried
+toldGate BelowThreshold = (0, nothing)
+toldGate RangeFolded = (1, nothing)
+toldGate NotScanned = (2, nothing)
+toldGate Unknown = (3, nothing)
+toldGate Reserved = (4, nothing)
+toldGate (Value x) = (5, its-float x)
+toldGate (Class code) = (6, its-code code)
 
 -- the kind of a code's gate
 abbrev pub kindOf : Coding → ℕ → ℕ
@@ -64,7 +79,7 @@ toldOf c code = record {
 
 -- the values of a gate's answer: its case by `toldGate`, the fraction's two numbers, the hundredths
 pub record Values : Type 0 where
-  pub gate : ℕ × List Float
+  pub gate : ℕ × Carried
   pub difference : ℤ
   pub scale : ℕ
   pub hundredths : ℤ

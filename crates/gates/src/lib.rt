@@ -4,7 +4,7 @@ ghost use mathlib.Core.Path.{_≡_};
 ghost use mathlib.Core.List.{[], _∷_, map};
 ghost use Prim.Native.Nat.{_+_, _*_, _^_, _≤_, _<_};
 ghost use lib.ListN.{length, getD};
-ghost use Rattle.gates.specs.Gates.{differenceOf, floatOf, gateOf, toldGate, kindOf, magnitudeOf, hundredthsOf, toldOf, valuesOf};
+ghost use Rattle.gates.specs.Gates.{differenceOf, floatOf, isMeasurement, otherOf, gateOf, toldGate, kindOf, magnitudeOf, hundredthsOf, toldOf, valuesOf};
 ghost use Rattle.gates.specs.Codes.{codesOf};
 ghost use Rattle.gates.specs.Rows.{Tabled, Rowed};
 ghost use Rattle.gates.specs.Counting.{countsOf, summed, totalOf};
@@ -26,6 +26,7 @@ pub enum Gate {
     Unknown,
     Reserved,
     Value(f64),
+    Class(u16),
 }
 
 impl Gate {
@@ -42,6 +43,7 @@ impl Gate {
             Gate::Unknown => 3,
             Gate::Reserved => 4,
             Gate::Value(_) => Gate::VALUE,
+            Gate::Class(_) => 6,
         }
     }
 }
@@ -59,7 +61,29 @@ fn quotient(c: Coding, code: u16) -> f64
     (difference(c, code) as f64) / (c.scale as f64)
 }
 
-// What a code says: the five special codes, and a value for any other.
+// Types 14 (HCL) and 15 (CF) hold classes and flags.
+fn is_measurement(data_type: u32) -> bool
+    ensures { λ r. ⌜ r ≡ isMeasurement data_type ⌝ }
+{
+    match data_type {
+        14 => false,
+        15 => false,
+        _ => true,
+    }
+}
+
+// What a code says that is not special. A class keeps the raw code.
+fn other(c: Coding, code: u16) -> Gate
+    ensures { λ r. ⌜ toldGate r ≡ toldGate (otherOf c code) ⌝ }
+{
+    if is_measurement(c.data_type) {
+        Gate::Value(quotient(c, code))
+    } else {
+        Gate::Class(code)
+    }
+}
+
+// What a code says: the five special codes, of every type, and any other.
 pub fn gate_of(c: Coding, code: u16) -> Gate
     ensures { λ r. ⌜ toldGate r ≡ toldGate (gateOf c code) ⌝ }
 {
@@ -69,7 +93,7 @@ pub fn gate_of(c: Coding, code: u16) -> Gate
         2 => Gate::NotScanned,
         3 => Gate::Unknown,
         4 => Gate::Reserved,
-        5..=65535 => Gate::Value(quotient(c, code)),
+        5..=65535 => other(c, code),
     }
 }
 
@@ -249,6 +273,7 @@ pub struct Counts {
     pub unknown: u64,
     pub reserved: u64,
     pub value: u64,
+    pub class: u64,
 }
 
 // One gate more.
@@ -264,6 +289,7 @@ fn bump(a: Counts, gate: Gate) -> Counts
         Gate::Unknown => u.unknown = a.unknown + 1,
         Gate::Reserved => u.reserved = a.reserved + 1,
         Gate::Value(_) => u.value = a.value + 1,
+        Gate::Class(_) => u.class = a.class + 1,
     }
     u
 }
@@ -280,6 +306,7 @@ pub fn counts_of(bytes: &[u8], bin: u16, c: Coding) -> Counts
         unknown: 0,
         reserved: 0,
         value: 0,
+        class: 0,
     };
     let mut i = 0;
     while i < n {

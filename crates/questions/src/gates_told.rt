@@ -20,8 +20,8 @@ fn bits_of(v: f64) -> u64 {
     if v == v { f64::to_bits(v) } else { 0 }
 }
 
-// 0 where there is no value.
-fn bits(gate: Gate) -> u64 {
+// The bits of a value's float, or the class; 0 for a special code.
+fn carried(gate: Gate) -> u64 {
     match gate {
         Gate::BelowThreshold => 0,
         Gate::RangeFolded => 0,
@@ -29,6 +29,7 @@ fn bits(gate: Gate) -> u64 {
         Gate::Unknown => 0,
         Gate::Reserved => 0,
         Gate::Value(v) => bits_of(v),
+        Gate::Class(code) => code as u64,
     }
 }
 
@@ -39,7 +40,7 @@ fn print_told(told: Told) {
     number(told.scale as u64);
     signed(told.hundredths);
     space();
-    io::print_hex(STDOUT_FILENO, bits(gate), 16);
+    io::print_hex(STDOUT_FILENO, carried(gate), 16);
 }
 
 // Answers whether there is such a gate.
@@ -85,7 +86,7 @@ fn mix_told(sum: u64, told: Told) -> u64 {
     let b = mix_signed(a, told.difference);
     let c = mix(b, told.scale as u64);
     let d = mix_signed(c, told.hundredths);
-    mix(d, bits(gate))
+    mix(d, carried(gate))
 }
 
 fn mix_gate(sum: u64, answer: GateAnswer) -> u64 {

@@ -102,8 +102,9 @@ fn print_name(question: Question) {
 fn type_asked(i: u32) -> u32 {
     match i {
         0..=8 => i,
-        9 => 63,
-        10 => 64,
+        9..=12 => i + 4,
+        13 => 63,
+        14 => 64,
         _ => 65,
     }
 }
@@ -116,7 +117,7 @@ fn print_type(file: &[u8], question: Question, k: u32, t: u32) {
 
 fn print_types(file: &[u8], question: Question, k: u32) {
     let mut i = 0;
-    while i < 12 {
+    while i < 16 {
         print_type(file, question, k, type_asked(i));
         i += 1;
     }

@@ -1,6 +1,6 @@
 // Asks of the volume on standard input, and of shortened and damaged copies of it, what is told of radials, moments,
-// gates, rows and tallies (document 01, "What reading tells"), and prints the answers. The places named below are those
-// of the volume `rich` of tools/volumes.py, of 2,330 bytes, eight radials and three cuts.
+// gates, rows and tallies (document 01, "What reading tells"; document 02, #101), and prints the answers. The places named
+// below are those of the volume `rich` of tools/volumes.py, of 2,535 bytes, eight radials and three cuts.
 
 mod gates_told;
 mod lines;
@@ -45,12 +45,17 @@ fn each_gate(file: &[u8]) {
     gates_told::print_each(file, 4, 64);
     gates_told::print_each(file, 4, 63);
     gates_told::print_each(file, 8, 4);
+    gates_told::print_each(file, 7, 13);
+    gates_told::print_each(file, 7, 14);
+    gates_told::print_each(file, 8, 15);
+    gates_told::print_each(file, 8, 16);
     gates_told::print_each(file, 0, 1);
     gates_told::print_each(file, 9, 1);
     gates_told::print_each(file, 1, 4);
 }
 
-// Each special code, a value, no such gate and no such moment; and the first 1,200 bytes, where radial 1 is not whole.
+// Each special code, a value, classes of one and of two bytes and a special code among them, no such gate and no such
+// moment; and the first 1,200 bytes, where radial 1 is not whole.
 fn in_words(file: &[u8]) {
     words::print_words(file, 1, 1, 0);
     words::print_words(file, 1, 1, 1);
@@ -58,6 +63,9 @@ fn in_words(file: &[u8]) {
     words::print_words(file, 1, 1, 3);
     words::print_words(file, 1, 1, 4);
     words::print_words(file, 1, 1, 5);
+    words::print_words(file, 7, 14, 5);
+    words::print_words(file, 8, 15, 3);
+    words::print_words(file, 8, 15, 7);
     words::print_words(file, 1, 1, 19);
     words::print_words(file, 1, 4, 0);
     words::print_words(first(file, 1200), 1, 1, 0);
@@ -74,7 +82,7 @@ fn short_rooms(file: &[u8]) {
 }
 
 fn prefixes(file: &[u8]) {
-    section(b"one byte short", first(file, 2329));
+    section(b"one byte short", first(file, 2534));
     section(b"cut in radial 3", first(file, 1600));
     section(b"cut in the second cut block", first(file, 800));
     section(b"empty", first(file, 0));

@@ -17,6 +17,7 @@ fn print_counts(tally: Tally) {
     part(c.unknown);
     part(c.reserved);
     part(c.value);
+    part(c.class);
 }
 
 // No two fields hold the same, so that none can stand for another unseen.
@@ -30,6 +31,7 @@ fn marked() -> Tally {
             unknown: 905,
             reserved: 906,
             value: 907,
+            class: 908,
         },
     }
 }
@@ -41,6 +43,7 @@ fn same_counts(a: Counts, b: Counts) -> bool {
         && a.unknown == b.unknown
         && a.reserved == b.reserved
         && a.value == b.value
+        && a.class == b.class
 }
 
 // Prints only where the lent record does not end as it should: with the tally, or after a refusal with its marks.

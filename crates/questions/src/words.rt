@@ -25,7 +25,13 @@ fn say_gate(gate: Gate) {
         Gate::Unknown => word(b" unknown"),
         Gate::Reserved => word(b" reserved"),
         Gate::Value(_) => word(b" a value"),
+        Gate::Class(code) => say_class(code),
     }
+}
+
+fn say_class(code: u16) {
+    word(b" class");
+    number(code as u64);
 }
 
 fn say_refusal(number: u32) {

@@ -9,11 +9,12 @@ pub bump-spec : {M : Type 1} → statement M
 unfolding countOf
 bump-spec =
     tie.close
-    (tie.spec (λ c. search needs) (λ c. search needs) (λ c. search needs) (λ c. search needs) (λ c. search needs) (λ c. search needs) (λ c. search needs)
+    (tie.spec (λ c. search needs) (λ c. search needs) (λ c. search needs) (λ c. search needs) (λ c. search needs) (λ c. search needs) (λ c. search needs) (λ c. search needs) (λ c. search needs)
     (λ c. search needs) (λ c. search needs) (λ c. search needs) (λ c. search needs) (λ c. search needs)
     (λ c. rw (c .before .enum-told .given .1) (simp add-zero))
     (λ c. rw (c .before .enum-told2 .given .1) (simp add-zero))
     (λ c. rw (c .before .enum-told3 .given .1) (simp add-zero))
     (λ c. rw (c .before .enum-told4 .given .1) (simp add-zero))
     (λ c. rw (c .before .enum-told5 .given .1) (simp add-zero))
-    (λ c. rw (c .before .enum-told6 .given .1) (simp add-zero)))
+    (λ c. rw (c .before .enum-told6 .given .1) (simp add-zero))
+    (λ c. rw (c .before .enum-told7 .given .1) (simp add-zero)))

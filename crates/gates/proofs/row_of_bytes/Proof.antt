@@ -1,12 +1,11 @@
 -- The loop's invariant: the first i places of either buffer are filled. Assumes nothing.
-use mathlib.Core.List.{List}
 use mathlib.Core.Path.{ap, _∙_}
 use Prim.Native.Nat.{ℕ, _-_, _≤_, _<_}
 use native.Mathlib.Omega.{arith}
 use borrow.Author.Needs.{needs, sfits-of}
-use lib.Ieee.{Float}
 use lib.ListN.{length, getD}
 use mir.Facts.{toZ-ofZ}
+use Rattle.gates.specs.Gates.{Carried}
 use Rattle.gates.proofs.Rows.{Begun, begun-none, begun-turn, begun-all}
 use Rattle.gates.proofs.row_of_bytes.Statement.{statement}
 use Rattle.gates.proofs.row_of_bytes.Tie as tie
@@ -32,7 +31,7 @@ loop-again c =
     let a = l .before .before .before .before .args in (
       omega arith,
       begun-turn (a .c) (a .bytes .now) (a .kinds .now) (a .hundredths .now) _ _ (l .loop .inv .1) (omega arith) (omega arith) (omega arith)
-          (c .before .kind .ensures ∙ ap (λ (t : ℕ × List Float). t .0) (c .before .before .gate-of .ensures))
+          (c .before .kind .ensures ∙ ap (λ (t : ℕ × Carried). t .0) (c .before .before .gate-of .ensures))
           (toZ-ofZ (sfits-of (c .hundredths .given)) ∙ l .before .table .ensures .entry (getD (a .bytes .now) (l .loop .i) 0) (byte b)),
     )
 

@@ -1,17 +1,15 @@
-use mathlib.Core.List.{List}
 use mathlib.Core.Path.{_≡_, sym, ap, _∙_}
 use Prim.Native.Nat.{ℕ}
 use borrow.Author.Needs.{needs, sfits-of}
-use lib.Ieee.{Float}
 use mir.Facts.{toZ-ofZ}
-use Rattle.gates.specs.Gates.{kindOf}
+use Rattle.gates.specs.Gates.{Carried, kindOf}
 use Rattle.gates.proofs.Gates.{told-value, told-other}
 use Rattle.gates.proofs.tell.Statement.{statement}
 use Rattle.gates.proofs.tell.Tie as tie
 
 -- the kind that is tested is the code's
 tested : (c : tie.After-kind) → c .kind .result ≡ kindOf (c .before .before .args .c) (c .before .before .args .code)
-tested c = c .kind .ensures ∙ ap (λ (t : ℕ × List Float). t .0) (c .before .gate-of .ensures)
+tested c = c .kind .ensures ∙ ap (λ (t : ℕ × Carried). t .0) (c .before .gate-of .ensures)
 
 returns : tie.Need-returns
 returns c =

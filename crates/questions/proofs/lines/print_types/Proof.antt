@@ -8,7 +8,7 @@ abbrev Inv-loop : tie.InvT-loop
 Inv-loop file question k i₀ i = Unit {0}
 
 abbrev μ-loop : tie.MeasureT-loop
-μ-loop file question k i₀ i = 12 - i
+μ-loop file question k i₀ i = 16 - i
 
 pub print-types-spec : {M : Type 1} → statement M
 print-types-spec =
