@@ -1,7 +1,7 @@
 #!/usr/bin/env python3
 """Slips made in definition and code alike: each has to be refused.
 
-    python3 tools/slips.py DIR
+    python3 tools/slips.py DIR [NAME ..]
 
 An edit of must-fail/ changes the code and leaves the definition, so a promise fails. These change both, and the proofs that
 only follow the code, so that each function still keeps its promise: what refuses them is a statement that does not share the
@@ -37,6 +37,22 @@ SLIPS = {
         ('crates/walk/src/after.rt', '            count.cut = count.cut + 1;\n',
          '            count.whole = 0;\n            count.cut = count.cut + 1;\n'),
     ],
+    # classes of types 13 and 14 (document 02, #101)
+    'other_types': [
+        ('crates/gates/specs/Gates.antt', 'eqb t 14 || eqb t 15', 'eqb t 13 || eqb t 14'),
+        ('crates/gates/src/lib.rt', '14 => false,\n        15 => false,', '13 => false,\n        14 => false,'),
+        ('crates/gates/proofs/Gates.antt', 't 14', 't 13'),
+        ('crates/gates/proofs/Gates.antt', '≡ 14', '≡ 13'),
+        ('crates/gates/proofs/Gates.antt', 't 15', 't 14'),
+        ('crates/gates/proofs/Gates.antt', '≡ 15', '≡ 14'),
+    ],
+    # unknown and reserved counted for each other
+    'other_kinds': [
+        ('crates/gates/specs/Counting.antt', 'unknown = countOf 3 kinds;\n  reserved = countOf 4 kinds;',
+         'unknown = countOf 4 kinds;\n  reserved = countOf 3 kinds;'),
+        ('crates/gates/src/lib.rt', 'Gate::Unknown => u.unknown = a.unknown + 1,\n        Gate::Reserved => u.reserved = a.reserved + 1,',
+         'Gate::Unknown => u.reserved = a.reserved + 1,\n        Gate::Reserved => u.unknown = a.unknown + 1,'),
+    ],
     # the types seen not cleared at a new radial (number 20)
     'seen_not_cleared': [
         ('crates/walk/specs/After.antt', 'left = r .«length_of_data»; seen = 0;', 'left = r .«length_of_data»; seen = w .rest .seen;'),
@@ -66,7 +82,7 @@ def slipped(folder, changes):
 
 def main():
     proved = []
-    for name, changes in SLIPS.items():
+    for name, changes in [(name, SLIPS[name]) for name in sys.argv[2:] or SLIPS]:
         folder = os.path.join(sys.argv[1], name)
         copied(folder)
         slipped(folder, changes)

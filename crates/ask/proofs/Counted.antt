@@ -16,7 +16,7 @@ use Rattle.gates.specs.Codes.{codesOf}
 use Rattle.gates.specs.Counting.{countOf, inOrder, totalOf}
 use Rattle.gates.specs.Gates.{isMeasurement, kindOf, toldOf, Values}
 use Rattle.gates.specs.Telling.{Telling}
-use Rattle.gates.proofs.Counting.{count-append, count-none, counts-all, in-order}
+use Rattle.gates.proofs.Counting.{count-append, count-none, counts-all, in-order, sum-in-order}
 use Rattle.gates.proofs.Gates.{kind-back}
 use Rattle.moments.specs.declared.Found as moment
 use Rattle.moments.specs.Moments.{momentsOf, findIn, dataAt}
@@ -28,7 +28,7 @@ use Rattle.ask.specs.declared.places.Where.{Where}
 use Rattle.ask.specs.declared.places.Where.the-variants.{At}
 use Rattle.ask.specs.declared.tallies.Tally.{Tally}
 use Rattle.ask.specs.Answers.{codingOf, gateIn, gateTold}
-use Rattle.ask.specs.Counted.{isOf, answeredWith, gatesAt, gatesOver, CountedOnce, Counted}
+use Rattle.ask.specs.Counted.{isOf, answeredWith, gatesAt, gatesOne, sumOver, CountedOnce, Counted}
 use Rattle.ask.specs.Growth.{gateAsked}
 use Rattle.ask.specs.Places.{inStretch, whereIs}
 use Rattle.ask.specs.Tallies.{noTally, added, carried, tallyOne, tallyOver}
@@ -80,6 +80,7 @@ module _ (f : List ℕ) (n t : ℕ) (s : Stretch) (p : ℕ) (e : whereIs f n t �
   counted-once =
       let gates = sound f n t s p e .gates in
       record {
+        one = ap (λ (x : Tally). x .radials) one-is;
         kind = λ k h.
             ap (λ (x : Tally). getD (inOrder (x .counts)) k 0) one-is
             ∙ in-order (map kind codes) k h
@@ -106,12 +107,25 @@ module _ (f : List ℕ) (t : ℕ) where
           counts-all (codingAt (bytesOf f s) p) (codesAt (bytesOf f s) p) ∙ whole-sound f t s p w h e .gates
       go moment.the-variants.Nowhere e = refl
 
-  over-gates : (cut : ℕ) (ss : List Stretch) → AllWhole f ss → AllPlaced f ss → totalOf (tallyOver f cut t ss .counts) ≡ gatesOver f cut t ss
-  unfolding tallyOver gatesOver countOf
+  over-radials : (cut : ℕ) (ss : List Stretch) → tallyOver f cut t ss .radials ≡ sumOver (λ s. tallyOne f cut t s .radials) ss
+  unfolding tallyOver sumOver
+  over-radials cut [] = refl
+  over-radials cut (s ∷ ss) = rw (over-radials cut ss)
+
+  over-kinds : (cut k : ℕ) (ss : List Stretch) → k < 7
+      → getD (inOrder (tallyOver f cut t ss .counts)) k 0 ≡ sumOver (λ s. getD (inOrder (tallyOne f cut t s .counts)) k 0) ss
+  unfolding tallyOver sumOver countOf
+  over-kinds cut k [] h = in-order [] k h
+  over-kinds cut k (s ∷ ss) h =
+      sum-in-order (tallyOne f cut t s .counts) (tallyOver f cut t ss .counts) k h
+      ∙ ap (λ (x : ℕ). getD (inOrder (tallyOne f cut t s .counts)) k 0 + x) (over-kinds cut k ss h)
+
+  over-gates : (cut : ℕ) (ss : List Stretch) → AllWhole f ss → AllPlaced f ss → totalOf (tallyOver f cut t ss .counts) ≡ sumOver (gatesOne f cut t) ss
+  unfolding tallyOver sumOver countOf
   over-gates cut [] w h = refl
   over-gates cut (s ∷ ss) w h =
       total-added (tallyOne f cut t s) (tallyOver f cut t ss)
-      ∙ rw (over-gates cut ss (w .1) (h .1)) (ap (λ (x : ℕ). x + gatesOver f cut t ss) (go (eqb (s .cut) cut)))
+      ∙ rw (over-gates cut ss (w .1) (h .1)) (ap (λ (x : ℕ). x + sumOver (gatesOne f cut t) ss) (go (eqb (s .cut) cut)))
     where
       go : (b : Bool) → totalOf (cond b (carried (bytesOf f s) (found s)) noTally .counts) ≡ cond b (gatesAt (bytesOf f s) (found s)) 0
       go true = carried-gates s (w .0) (h .0)
@@ -158,7 +172,9 @@ module _ (f : List ℕ) (t : ℕ) where
 pub counted : (f : List ℕ) (cut t : ℕ) → Counted f cut t
 counted f cut t =
     record {
-      radials = λ n s p e. counted-once f n t s p e;
+      once = λ n s p e. counted-once f n t s p e;
+      radials = over-radials f t cut (stretches f);
+      kinds = λ k h. over-kinds f t cut k (stretches f) h;
       all = over-gates f t cut (stretches f) (all-whole f) (all-placed f);
       no-value = over-astray f t false cut (stretches f);
       no-class = over-astray f t true cut (stretches f);

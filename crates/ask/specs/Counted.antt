@@ -35,23 +35,28 @@ gatesAt b NoRadial = 0
 gatesAt b NoMoment = 0
 gatesAt b (At s p) = gatesIn (momentAt b p .length) (momentAt b p .«bin_length»)
 
--- the gates of type t in the whole radials of a cut
-unfoldable pub gatesOver : List ℕ → ℕ → ℕ → List Stretch → ℕ
-gatesOver f cut t [] = 0
-gatesOver f cut t (s ∷ ss) =
+-- the gates that a whole radial adds to a tally of a cut and type
+abbrev pub gatesOne : List ℕ → ℕ → ℕ → Stretch → ℕ
+gatesOne f cut t s =
     cond (eqb (s .cut) cut) (gatesAt (bytesOf f s) (inStretch s (findIn (bytesOf f s) t (momentsOf (bytesOf f s))))) 0
-    + gatesOver f cut t ss
 
--- a whole radial that carries the type: each count, in the order of the kinds, is the number of its gates that are answered
--- with that kind, and the seven add up to its gates
+unfoldable pub sumOver : (Stretch → ℕ) → List Stretch → ℕ
+sumOver g [] = 0
+sumOver g (s ∷ ss) = g s + sumOver g ss
+
+-- a whole radial that carries the type, to a tally of its cut: it adds 1, and to each count, in the order of the kinds, the
+-- number of its gates that are answered with that kind; the seven add up to its gates
 pub record CountedOnce (f : List ℕ) (n t : ℕ) (s : Stretch) (p : ℕ) : Type 0 where
+  pub one : tallyOne f (s .cut) t s .radials ≡ 1
   pub kind : (k : ℕ) → k < 7 → getD (inOrder (tallyOne f (s .cut) t s .counts)) k 0 ≡ answeredWith f n t k (gatesAt (bytesOf f s) (At s p))
   pub all : totalOf (tallyOne f (s .cut) t s .counts) ≡ gatesAt (bytesOf f s) (At s p)
 
--- a tally: its counts add up to the gates of its radials. Where the type is no measurement, no gate is counted as a value;
--- where it is one, none is counted as a class
+-- a tally: each number in it is the sum of what the whole radials add, and the seven counts add up to the gates of these
+-- radials. Where the type is no measurement, no gate is counted as a value; where it is one, none is counted as a class
 pub record Counted (f : List ℕ) (cut t : ℕ) : Type 0 where
-  pub radials : (n : ℕ) (s : Stretch) (p : ℕ) → whereIs f n t ≡ At s p → CountedOnce f n t s p
-  pub all : totalOf (tallyOf f cut t .counts) ≡ gatesOver f cut t (stretches f)
+  pub once : (n : ℕ) (s : Stretch) (p : ℕ) → whereIs f n t ≡ At s p → CountedOnce f n t s p
+  pub radials : tallyOf f cut t .radials ≡ sumOver (λ s. tallyOne f cut t s .radials) (stretches f)
+  pub kinds : (k : ℕ) → k < 7 → getD (inOrder (tallyOf f cut t .counts)) k 0 ≡ sumOver (λ s. getD (inOrder (tallyOne f cut t s .counts)) k 0) (stretches f)
+  pub all : totalOf (tallyOf f cut t .counts) ≡ sumOver (gatesOne f cut t) (stretches f)
   pub no-value : isMeasurement t ≡ false → tallyOf f cut t .counts .value ≡ 0
   pub no-class : isMeasurement t ≡ true → tallyOf f cut t .counts .class ≡ 0

@@ -11,6 +11,7 @@ use lib.Dec.{eqb}
 use lib.ListN.{length, getD, take}
 use lib.Seq.{take-suc}
 use Rattle.gates.specs.declared.Coding.{Coding}
+use Rattle.gates.specs.declared.Counts.{Counts}
 use Rattle.gates.specs.Gates.{gateOf, kindOf}
 use Rattle.gates.specs.Counting.{countOf, countsOf, inOrder, summed, totalOf}
 use Rattle.gates.proofs.Gates.{kind-lt}
@@ -41,6 +42,16 @@ in-order kinds (suc (suc (suc (suc zero)))) h = refl
 in-order kinds (suc (suc (suc (suc (suc zero))))) h = refl
 in-order kinds (suc (suc (suc (suc (suc (suc zero)))))) h = refl
 in-order kinds (suc (suc (suc (suc (suc (suc (suc n))))))) h = absurd (omega arith)
+
+pub sum-in-order : (a b : Counts) (k : ℕ) → k < 7 → getD (inOrder (summed a b)) k 0 ≡ getD (inOrder a) k 0 + getD (inOrder b) k 0
+sum-in-order a b zero h = refl
+sum-in-order a b (suc zero) h = refl
+sum-in-order a b (suc (suc zero)) h = refl
+sum-in-order a b (suc (suc (suc zero))) h = refl
+sum-in-order a b (suc (suc (suc (suc zero)))) h = refl
+sum-in-order a b (suc (suc (suc (suc (suc zero))))) h = refl
+sum-in-order a b (suc (suc (suc (suc (suc (suc zero)))))) h = refl
+sum-in-order a b (suc (suc (suc (suc (suc (suc (suc n))))))) h = absurd (omega arith)
 
 -- a kind that no code has is not counted
 pub count-none : (c : Coding) (k : ℕ) (codes : List ℕ) → ((code : ℕ) → kindOf c code ≡ k → ⊥) → countOf k (map (kindOf c) codes) ≡ 0
