@@ -29,15 +29,7 @@ fn none() -> Tally
 {
     Tally {
         radials: 0,
-        counts: Counts {
-            below: 0,
-            folded: 0,
-            not_scanned: 0,
-            unknown: 0,
-            reserved: 0,
-            value: 0,
-            class: 0,
-        },
+        counts: Counts::none(),
     }
 }
 

@@ -276,6 +276,23 @@ pub struct Counts {
     pub class: u64,
 }
 
+impl Counts {
+    // Of no gates.
+    pub fn none() -> Counts
+        ensures { λ r. ⌜ r ≡ countsOf [] ⌝ }
+    {
+        Counts {
+            below: 0,
+            folded: 0,
+            not_scanned: 0,
+            unknown: 0,
+            reserved: 0,
+            value: 0,
+            class: 0,
+        }
+    }
+}
+
 // One gate more.
 fn bump(a: Counts, gate: Gate) -> Counts
     requires { ⌜ totalOf a + 1 < 2 ^ 64 ⌝ }
@@ -299,15 +316,7 @@ pub fn counts_of(bytes: &[u8], bin: u16, c: Coding) -> Counts
     ensures { λ r. ⌜ r ≡ countsOf (map (kindOf c) (codesOf bin (now (bytes .entry)))) ⌝ }
 {
     let n = gates_in(bytes, bin);
-    let mut u = Counts {
-        below: 0,
-        folded: 0,
-        not_scanned: 0,
-        unknown: 0,
-        reserved: 0,
-        value: 0,
-        class: 0,
-    };
+    let mut u = Counts::none();
     let mut i = 0;
     while i < n {
         let gate = gate_of(c, code_at(bytes, bin, i));

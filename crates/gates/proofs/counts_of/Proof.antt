@@ -1,5 +1,5 @@
 -- The loop's invariant: the first i gates are counted. Assumes nothing.
-use mathlib.Core.Path.{_≡_, refl, _∙_}
+use mathlib.Core.Path.{_≡_, _∙_}
 use mathlib.Core.List.{map}
 use Prim.Native.Nat.{_-_, _≤_}
 use native.Mathlib.Omega.{arith}
@@ -8,7 +8,7 @@ use lib.ListN.{length, take}
 use lib.Seq.{take-length, length-take-le}
 use Rattle.gates.specs.Codes.{codesOf}
 use Rattle.gates.specs.Gates.{kindOf}
-use Rattle.gates.specs.Counting.{countOf, countsOf}
+use Rattle.gates.specs.Counting.{countsOf}
 use Rattle.gates.proofs.Counting.{counts-turn, counts-all}
 use Rattle.gates.proofs.counts_of.Statement.{statement}
 use Rattle.gates.proofs.counts_of.Tie as tie
@@ -20,20 +20,19 @@ abbrev μ-loop : tie.MeasureT-loop
 μ-loop bytes bin c n u₀ i₀ u i = n - i
 
 loop-holds : tie.Need-loop-holds Inv-loop μ-loop
-unfolding countOf
-loop-holds c = (omega arith, refl)
+loop-holds c = (omega arith, c .none .ensures)
 
 bump-requires : tie.Need-bump-requires Inv-loop μ-loop
 bump-requires c κs =
     let l = c .before .before .before in
-    let a = l .before .before .before .args in
+    let a = l .before .before .before .before .args in
     let codes = codesOf (a .bin) (a .bytes .now) in
     rw (l .loop .inv .1) (omega (arith, counts-all (a .c) (take (l .loop .i) codes), length-take-le (l .loop .i) codes (omega arith)))
 
 loop-again : tie.Need-loop-again Inv-loop μ-loop
 loop-again c =
     let l = c .before .before .before .before in
-    let a = l .before .before .before .args in
+    let a = l .before .before .before .before .args in
     let codes = codesOf (a .bin) (a .bytes .now) in (
       omega arith,
       rw (c .bump .ensures, l .loop .inv .1, c .before .gate-of .ensures, c .before .before .code-at .ensures) (counts-turn (a .c) codes (l .loop .i) (omega arith)),
@@ -42,7 +41,7 @@ loop-again c =
 returns : tie.Need-returns Inv-loop μ-loop
 returns c =
     let l = c .before in
-    let a = l .before .before .before .args in
+    let a = l .before .before .before .before .args in
     let codes = codesOf (a .bin) (a .bytes .now) in
     let all : l .loop .i ≡ length codes = omega arith in
     l .loop .inv .1 ∙ rw (all, take-length codes)
@@ -53,6 +52,7 @@ counts-of-spec =
     (tie.spec
     Inv-loop
     μ-loop
+    (λ c κs. search needs)
     (λ c κs. search needs)
     loop-holds
     (λ c κs. search needs)

@@ -1,13 +1,9 @@
-use mathlib.Core.Path.{refl}
-use Rattle.gates.specs.Counting.{countOf}
+use borrow.Author.Needs.{needs}
 use Rattle.ask.proofs.tallies.none.Statement.{statement}
 use Rattle.ask.proofs.tallies.none.Tie as tie
 
 returns : tie.Need-returns
-unfolding countOf
-returns c = refl
+returns c = rw (c .none .ensures)
 
 pub none-spec : {M : Type 1} → statement M
-none-spec =
-    tie.close
-    (tie.spec returns)
+none-spec = tie.close (tie.spec (λ c κs. search needs) returns)
