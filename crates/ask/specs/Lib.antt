@@ -5,3 +5,4 @@ pub mod Growth
 pub mod Sound
 pub mod Asked
 pub mod Counted
+pub mod Shown

@@ -19,6 +19,7 @@ use Rattle.volume.proofs.Meaning.{means}
 use Rattle.volume.proofs.Placed.{in-place}
 use Rattle.volume.proofs.Sense.{sense}
 use Rattle.ask.proofs.Counted.{counted}
+use Rattle.ask.proofs.Shown.{row-shown}
 use Rattle.ask.proofs.Sounding.{sound}
 use Rattle.index.proofs.Same.{right-only, right-when}
 use Rattle.writer.proofs.Again.{same-block}
@@ -92,6 +93,7 @@ demand-two =
       exactly = refused-exactly;
       radials = whole-radials;
       codes = codes;
+      rows = row-shown;
       tallies = counted;
       trips = trips;
       writing = writing;

@@ -4,7 +4,7 @@ use mathlib.Core.List.{List, [], _∷_, map}
 use mathlib.Core.Logic.{_⊎_}
 use mathlib.Core.Path.{_≡_}
 use Prim.Native.Nat.{ℕ, _<_, _≤_}
-use lib.IntN.{pos}
+use lib.IntN.{ℤ, pos}
 use lib.ListN.{length}
 use Rattle.le.specs.Le.{Bytes}
 use Rattle.rules.specs.declared.check.Check.the-variants.{Fine, Broken}
@@ -22,10 +22,13 @@ use Rattle.radial.specs.Radial.{radialOf, radialBytes, RadialFits, radialSize}
 use Rattle.site.specs.Site.{siteOf, siteBytes, SiteFits, siteSize}
 use Rattle.task.specs.Task.{taskOf, taskBytes, TaskFits, taskSize}
 use Rattle.gates.specs.declared.Coding.{Coding}
+use Rattle.gates.specs.declared.RowAnswer.{RowAnswer}
 use Rattle.gates.specs.declared.Gate.the-variants.{BelowThreshold, RangeFolded, NotScanned, Unknown, Reserved, Value, Class}
 use Rattle.gates.specs.Gates.{isMeasurement, gateOf, nothing, kindOf, toldOf, valuesOf, differenceOf, floatOf, hundredthsOf}
 use Rattle.gates.specs.Exact.{Lossless}
 use Rattle.gates.specs.Nearest.{Nearest}
+use Rattle.gates.specs.Rows.{toldRow}
+use Rattle.gates.specs.Telling.{answered}
 use Rattle.reading.specs.declared.Stretch.{Stretch}
 use Rattle.walk.specs.declared.due.Walk.{Walk}
 use Rattle.reading.specs.Reading.{stop, stretches, bytesOf, told}
@@ -34,8 +37,10 @@ use Rattle.volume.specs.InPlace.{AllInPlace}
 use Rattle.volume.specs.Meaning.{Means}
 use Rattle.volume.specs.Sense.{Sense}
 use Rattle.ask.specs.declared.places.Where.the-variants.{At}
+use Rattle.ask.specs.Answers.{RowTold}
 use Rattle.ask.specs.Counted.{Counted}
 use Rattle.ask.specs.Places.{whereIs}
+use Rattle.ask.specs.Shown.{Shown}
 use Rattle.ask.specs.Sound.{Sound}
 use Rattle.index.specs.Answer.{rightFor}
 use Rattle.index.specs.Index.{indexOf}
@@ -90,6 +95,10 @@ pub record Codes : Type 0 where
   pub float : (c : Coding) (code : ℕ) → code < 65536 → c .offset < 65536 → c .scale < 65536 → Lossless c code
   pub hundredths : (c : Coding) (code : ℕ) → 0 < c .scale → Nearest (differenceOf c code) (c .scale) (hundredthsOf c code)
 
+-- a row shows of each gate the kind and the hundredths that the gate question answers, and it shows them all
+abbrev pub Rows : Type 0
+Rows = (f : List ℕ) (n t m : ℕ) (k k′ : List ℕ) (h h′ : List ℤ) (r : RowAnswer) → toldRow r ≡ answered m → RowTold f (whereIs f n t) k h r k′ h′ → Shown f n t m k′ h′
+
 -- a tally counts what the gate question answers, each gate once, by its kind: the seven counts of a radial add up to its gates,
 -- and those of a tally to the gates of its radials; a class is counted as a class alone
 abbrev pub Tallies : Type 0
@@ -133,6 +142,7 @@ pub record DemandTwo : Type 0 where
   pub exactly : RefusedExactly
   pub radials : WholeRadials
   pub codes : Codes
+  pub rows : Rows
   pub tallies : Tallies
   pub trips : Trips
   pub writing : Writing

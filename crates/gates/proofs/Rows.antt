@@ -1,20 +1,21 @@
 -- Laws of specs/Rows: two lent buffers that a loop fills from their fronts, for both loops; and what a row answers. Assumes
 -- nothing.
 use mathlib.Core.Path.{_≡_, refl, sym, ap, _∙_}
-use mathlib.Core.Bool.{true, false}
+use mathlib.Core.Bool.{Bool, true, false}
 use mathlib.Core.List.{List, [], _∷_, _++_, map}
 use Prim.Native.Nat.{ℕ, suc, _+_, _≤_, _<_}
 use native.Mathlib.Numerals.{add-one}
 use native.Mathlib.Omega.{arith}
-use lib.IntN.{ℤ}
-use lib.ListN.{length, getD, set, take, drop, length-set, length-map, List·getD-map}
+use lib.IntN.{ℤ, pos}
+use lib.ListN.{length, getD, set, take, drop, length-set, length-map, List·getD-append, List·getD-map}
 use lib.Seq.{drop-cons, take-suc, take-length, length-take-le, set-at, append-snoc}
 use borrow.Author.Tests.{le-leb, lt-leb}
 use Rattle.gates.specs.declared.Coding.{Coding}
 use Rattle.gates.specs.declared.RowAnswer.{RowAnswer}
 use Rattle.gates.specs.declared.RowAnswer.the-variants.{Filled, Refused}
-use Rattle.gates.specs.Gates.{kindOf}
-use Rattle.gates.specs.Rows.{shownOf, rooms, filled, Rowed}
+use Rattle.gates.specs.Gates.{gateOf, kindOf, toldOf}
+use Rattle.gates.specs.Rows.{toldRow, shownOf, rooms, filled, Rowed}
+use Rattle.gates.specs.Telling.{refused, answered}
 use Rattle.gates.proofs.Tellings.{told-row-one}
 
 -- `here` is `old` with its first i places filled by f of the codes
@@ -71,14 +72,43 @@ module _ (c : Coding) (codes k : List ℕ) (h : List ℤ) where
       }
 
   -- no room in a buffer: both are as they were
-  refused : rooms codes k h ≡ false → Rowed c codes k h (Refused 33) k h
-  refused e = record { answer = rw e; kinds = rw e; hundredths = rw e }
+  no-room : rooms codes k h ≡ false → Rowed c codes k h (Refused 33) k h
+  no-room e = record { answer = rw e; kinds = rw e; hundredths = rw e }
 
   pub short-kinds : length k < length codes → Rowed c codes k h (Refused 33) k h
-  short-kinds l = refused (rw (lt-leb (length codes) (length k) l))
+  short-kinds l = no-room (rw (lt-leb (length codes) (length k) l))
 
   pub short-hundredths : length codes ≤ length k → length h < length codes → Rowed c codes k h (Refused 33) k h
-  short-hundredths m l = refused (rw (le-leb (length codes) (length k) m, lt-leb (length codes) (length h) l))
+  short-hundredths m l = no-room (rw (le-leb (length codes) (length k) m, lt-leb (length codes) (length h) l))
+
+-- ---- what a filled row holds
+
+-- at a gate's place, what is filled in for its code
+at-gate : {A : Type 0} (f : ℕ → A) (codes : List ℕ) (old : List A) (i : ℕ) → i < length codes → getD (filled (map f codes) old) i (f 0) ≡ f (getD codes i 0)
+at-gate f codes old i l =
+    List·getD-append (map f codes) (drop (length (map f codes)) old) (f 0) i (rw (length-map codes f) l) ∙ List·getD-map f codes i 0
+
+pub record Shows (c : Coding) (codes : List ℕ) (n : ℕ) (k′ : List ℕ) (h′ : List ℤ) : Type 0 where
+  pub all : n ≡ length codes
+  pub kind : (i : ℕ) → i < n → getD k′ i 0 ≡ kindOf c (getD codes i 0)
+  pub hundredths : (i : ℕ) → i < n → getD h′ i (pos 0) ≡ shownOf c (getD codes i 0)
+
+pub row-shows : {c : Coding} {codes k k′ : List ℕ} {h h′ : List ℤ} {r : RowAnswer} (n : ℕ) → Rowed c codes k h r k′ h′ → toldRow r ≡ answered n → Shows c codes n k′ h′
+unfolding gateOf toldOf
+row-shows {c} {codes} {k} {k′} {h} {h′} {r} n p e = go (rooms codes k h) refl
+  where
+    go : (b : Bool) → rooms codes k h ≡ b → Shows c codes n k′ h′
+    go true q =
+        let here : answered n ≡ answered (length codes) = sym e ∙ rw q at (p .answer) in
+        let all : n ≡ length codes = cc in
+        record {
+          all = all;
+          kind = λ i l. ap (λ (x : List ℕ). getD x i 0) (rw q at (p .kinds)) ∙ at-gate (kindOf c) codes k i (omega arith);
+          hundredths = λ i l. ap (λ (x : List ℤ). getD x i (pos 0)) (rw q at (p .hundredths)) ∙ at-gate (shownOf c) codes h i (omega arith);
+        }
+    go false q =
+        let here : answered n ≡ refused 33 0 = sym e ∙ rw q at (p .answer) in
+        absurd (let z : _≡_ {A = ℕ} 0 1 = cc in omega arith)
 
 -- two results that are allowed for one input are one
 pub row-one : {c : Coding} {codes k k′ k″ : List ℕ} {h h′ h″ : List ℤ} {r s : RowAnswer} → Rowed c codes k h r k′ h′ → Rowed c codes k h s k″ h″
