@@ -226,6 +226,12 @@ def check():
     assert int.from_bytes(b'\5\1', 'little') == 261
     assert value(5, 1, 32768)[2] == -3276300
 
+    # document 02, #101: classes of types 14 and 15 alone
+    for t in range(1, 65):
+        class_of = [ref.gate_of(code, 16, 130, t).code for code in (4, 5, 300)]
+        assert class_of == ([None, 5, 300] if t in (14, 15) else [None] * 3)
+        assert ref.gate_of(5, 16, 130, t).kind == (6 if t in (14, 15) else 5)
+
     def told(data):
         r = ref.read(data)
         return r.verdict, r.bytes_read, len(r.radials)

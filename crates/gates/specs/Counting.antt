@@ -1,4 +1,4 @@
--- The seven counts of a tally (document 01, "What reading tells").
+-- The seven counts of a tally (document 01, "What reading tells"; document 02, #101).
 use mathlib.Core.Bool.{cond}
 use mathlib.Core.List.{List, [], _∷_}
 use Prim.Native.Nat.{ℕ, _+_}

@@ -1,4 +1,5 @@
--- What a gate's code says (document 01, "What reading tells"). Each definition has the whole coding, the type with it.
+-- What a gate's code says (document 01, "What reading tells"; document 02, #101). Each definition has the whole coding, the
+-- type with it.
 use Prim.Native.Nat.{ℕ, suc, _+_, _*_, _/_}
 use mathlib.Core.Bool.{Bool, cond, not, _||_}
 use mathlib.Core.List.{[], _∷_}
