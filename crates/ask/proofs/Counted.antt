@@ -14,8 +14,7 @@ use Rattle.moment.specs.Moment.{momentAt}
 use Rattle.gates.specs.declared.Coding.{Coding}
 use Rattle.gates.specs.Codes.{codesOf}
 use Rattle.gates.specs.Counting.{countOf, inOrder, totalOf}
-use Rattle.gates.specs.Gates.{isMeasurement, kindOf, toldOf, Values}
-use Rattle.gates.specs.Telling.{Telling}
+use Rattle.gates.specs.Gates.{isMeasurement, kindOf, toldOf}
 use Rattle.gates.proofs.Counting.{count-append, count-none, counts-all, in-order, sum-in-order}
 use Rattle.gates.proofs.Gates.{kind-back}
 use Rattle.moments.specs.declared.Found as moment
@@ -94,6 +93,19 @@ module _ (f : List ℕ) (n t : ℕ) (s : Stretch) (p : ℕ) (e : whereIs f n t �
 total-added : (x y : Tally) → totalOf (added x y .counts) ≡ totalOf (x .counts) + totalOf (y .counts)
 total-added x y = omega arith
 
+-- the count that a type shuts out: of classes for a measurement, of values for any other
+abbrev strays : Bool → Tally → ℕ
+strays m a = cond m (a .counts .class) (a .counts .value)
+
+none-astray : (m : Bool) → strays m noTally ≡ 0
+unfolding countOf
+none-astray true = refl
+none-astray false = refl
+
+added-astray : (m : Bool) (x y : Tally) → strays m x ≡ 0 → strays m y ≡ 0 → strays m (added x y) ≡ 0
+added-astray true x y a b = omega arith
+added-astray false x y a b = omega arith
+
 module _ (f : List ℕ) (t : ℕ) where
   abbrev found : Stretch → Where
   found s = inStretch s (findIn (bytesOf f s) t (momentsOf (bytesOf f s)))
@@ -130,20 +142,6 @@ module _ (f : List ℕ) (t : ℕ) where
       go : (b : Bool) → totalOf (cond b (carried (bytesOf f s) (found s)) noTally .counts) ≡ cond b (gatesAt (bytesOf f s) (found s)) 0
       go true = carried-gates s (w .0) (h .0)
       go false = refl
-
-  -- ---- the count that the type shuts out: of classes for a measurement, of values for any other type
-
-  abbrev strays : Bool → Tally → ℕ
-  strays m a = cond m (a .counts .class) (a .counts .value)
-
-  none-astray : (m : Bool) → strays m noTally ≡ 0
-  unfolding countOf
-  none-astray true = refl
-  none-astray false = refl
-
-  added-astray : (m : Bool) (x y : Tally) → strays m x ≡ 0 → strays m y ≡ 0 → strays m (added x y) ≡ 0
-  added-astray true x y a b = omega arith
-  added-astray false x y a b = omega arith
 
   carried-astray : (m : Bool) (s : Stretch) → isMeasurement t ≡ m → strays m (carried (bytesOf f s) (found s)) ≡ 0
   unfolding inStretch carried

@@ -1,8 +1,8 @@
 -- A filled row shows what the gate question answers: specs/Shown, of every file. Assumes nothing.
-use Prim.Native.Nat.{ℕ, _<_}
+use Prim.Native.Nat.{ℕ}
 use native.Mathlib.Omega.{arith}
 use mathlib.Core.List.{List}
-use mathlib.Core.Path.{_≡_, refl, sym, ap, _∙_}
+use mathlib.Core.Path.{_≡_, refl, sym, _∙_}
 use borrow.Author.Tests.{lt-ltb, le-ltb}
 use lib.IntN.{ℤ}
 use lib.ListN.{length, getD}
@@ -11,16 +11,15 @@ use Rattle.gates.specs.declared.RowAnswer.{RowAnswer}
 use Rattle.gates.specs.Codes.{codesOf}
 use Rattle.gates.specs.Gates.{toldOf, valuesOf}
 use Rattle.gates.specs.Rows.{toldRow}
-use Rattle.gates.specs.Telling.{Telling, refused, answered}
-use Rattle.gates.proofs.Rows.{Shows, row-shows}
+use Rattle.gates.specs.Telling.{refused, answered}
+use Rattle.gates.proofs.Rows.{row-shows}
 use Rattle.moments.specs.Moments.{dataAt}
-use Rattle.reading.specs.declared.Stretch.{Stretch}
 use Rattle.reading.specs.Reading.{bytesOf}
 use Rattle.ask.specs.declared.places.Where.{Where}
 use Rattle.ask.specs.declared.places.Where.the-variants.{At, NoRadial, NoMoment}
 use Rattle.ask.specs.Answers.{codingOf, gateIn, gateTold, RowTold}
 use Rattle.ask.specs.Places.{whereIs}
-use Rattle.ask.specs.Shown.{ShownAt, Shown}
+use Rattle.ask.specs.Shown.{Shown}
 
 -- a row that was refused did not answer
 not-filled : (r : RowAnswer) (m number : ℕ) → toldRow r ≡ answered m → toldRow r ≡ refused number 0 → ⊥
