@@ -23,13 +23,12 @@ use Rattle.reading.specs.declared.Stretch.{Stretch}
 use Rattle.reading.specs.Reading.{stretches, bytesOf}
 use Rattle.reading.specs.Tiling.{WholeRadial, AllWhole}
 use Rattle.reading.proofs.Radials.{all-whole}
-use Rattle.ask.specs.declared.places.Where.{Where}
 use Rattle.ask.specs.declared.places.Where.the-variants.{At}
 use Rattle.ask.specs.declared.tallies.Tally.{Tally}
 use Rattle.ask.specs.Answers.{codingOf, gateIn, gateTold}
 use Rattle.ask.specs.Counted.{isOf, answeredWith, gatesAt, gatesOne, sumOver, CountedOnce, Counted}
 use Rattle.ask.specs.Growth.{gateAsked}
-use Rattle.ask.specs.Places.{inStretch, whereIs}
+use Rattle.ask.specs.Places.{inStretch, momentIn, whereIs}
 use Rattle.ask.specs.Tallies.{noTally, added, carried, tallyOne, tallyOver}
 use Rattle.ask.proofs.Asked.{find-type}
 use Rattle.ask.proofs.Growing.{Placed, AllPlaced, all-placed}
@@ -107,10 +106,7 @@ added-astray true x y a b = omega arith
 added-astray false x y a b = omega arith
 
 module _ (f : List ℕ) (t : ℕ) where
-  abbrev found : Stretch → Where
-  found s = inStretch s (findIn (bytesOf f s) t (momentsOf (bytesOf f s)))
-
-  carried-gates : (s : Stretch) → WholeRadial f s → Placed f s → totalOf (carried (bytesOf f s) (found s) .counts) ≡ gatesAt (bytesOf f s) (found s)
+  carried-gates : (s : Stretch) → WholeRadial f s → Placed f s → totalOf (carried (bytesOf f s) (momentIn f t s) .counts) ≡ gatesAt (bytesOf f s) (momentIn f t s)
   unfolding inStretch carried gatesAt countOf
   carried-gates s w h = go (findIn (bytesOf f s) t (momentsOf (bytesOf f s))) refl
     where
@@ -139,11 +135,11 @@ module _ (f : List ℕ) (t : ℕ) where
       total-added (tallyOne f cut t s) (tallyOver f cut t ss)
       ∙ rw (over-gates cut ss (w .1) (h .1)) (ap (λ (x : ℕ). x + sumOver (gatesOne f cut t) ss) (go (eqb (s .cut) cut)))
     where
-      go : (b : Bool) → totalOf (cond b (carried (bytesOf f s) (found s)) noTally .counts) ≡ cond b (gatesAt (bytesOf f s) (found s)) 0
+      go : (b : Bool) → totalOf (cond b (carried (bytesOf f s) (momentIn f t s)) noTally .counts) ≡ cond b (gatesAt (bytesOf f s) (momentIn f t s)) 0
       go true = carried-gates s (w .0) (h .0)
       go false = refl
 
-  carried-astray : (m : Bool) (s : Stretch) → isMeasurement t ≡ m → strays m (carried (bytesOf f s) (found s)) ≡ 0
+  carried-astray : (m : Bool) (s : Stretch) → isMeasurement t ≡ m → strays m (carried (bytesOf f s) (momentIn f t s)) ≡ 0
   unfolding inStretch carried
   carried-astray m s is = go (findIn (bytesOf f s) t (momentsOf (bytesOf f s))) refl
     where
@@ -163,7 +159,7 @@ module _ (f : List ℕ) (t : ℕ) where
   over-astray m cut [] is = none-astray m
   over-astray m cut (s ∷ ss) is = added-astray m (tallyOne f cut t s) (tallyOver f cut t ss) (go (eqb (s .cut) cut)) (over-astray m cut ss is)
     where
-      go : (b : Bool) → strays m (cond b (carried (bytesOf f s) (found s)) noTally) ≡ 0
+      go : (b : Bool) → strays m (cond b (carried (bytesOf f s) (momentIn f t s)) noTally) ≡ 0
       go true = carried-astray m s is
       go false = none-astray m
 

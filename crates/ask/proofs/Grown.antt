@@ -26,7 +26,7 @@ use Rattle.ask.specs.declared.places.Where.the-variants.{At}
 use Rattle.ask.specs.declared.tallies.Tally.{Tally}
 use Rattle.ask.specs.Answers.{radialTold, momentTold, dataTold, gateTold, RowTold}
 use Rattle.ask.specs.Growth.{gateAsked, rowAsked, Kept, AnswersGrow}
-use Rattle.ask.specs.Places.{inStretch, inFound, whereIs}
+use Rattle.ask.specs.Places.{inStretch, momentIn, inFound, whereIs}
 use Rattle.ask.specs.Tallies.{added, tallyOver, tallyOf, tallyTold}
 use Rattle.ask.proofs.Growing.{nth-kept, nth-of, nth-placed, tally-same, accepted-kept, no-fewer}
 use Rattle.ask.proofs.Tallying.{tally-append}
@@ -56,7 +56,7 @@ module _ (A C : List ℕ) (some : 0 < length C) where
     unfolding inFound
     place-kept t = rw (there, here) (ap (λ (b : List ℕ). inStretch s (findIn b t (momentsOf b))) same)
 
-    placed : (t : ℕ) → whereIs A n t ≡ inStretch s (findIn (bytesOf A s) t (momentsOf (bytesOf A s)))
+    placed : (t : ℕ) → whereIs A n t ≡ momentIn A t s
     unfolding inFound
     placed t = rw here
 

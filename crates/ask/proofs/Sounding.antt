@@ -37,7 +37,7 @@ use Rattle.reading.specs.Tiling.{dueWith, Tiled, none, more, WholeRadial, AllWh
 use Rattle.reading.proofs.Radials.{all-whole}
 use Rattle.ask.specs.declared.places.Where.the-variants.{At}
 use Rattle.ask.specs.Answers.{codingOf}
-use Rattle.ask.specs.Places.{inStretch, inFound, whereIs}
+use Rattle.ask.specs.Places.{inStretch, momentIn, inFound, whereIs}
 use Rattle.ask.specs.Sound.{Sound}
 use Rattle.ask.proofs.Growing.{Placed, nth-of, nth-placed}
 
@@ -145,7 +145,7 @@ stands f n t s p e = go (nth (stretches f) n) refl
     go : (v : Found) → nth (stretches f) n ≡ v → Stands f n t s p
     go found.Nowhere q = absurd (let y : inFound f found.Nowhere t ≡ At s p = rw q at e in let z : _≡_ {A = ℕ} 0 1 = cc in omega arith)
     go (found.There x) q =
-        let y : inStretch x (findIn (bytesOf f x) t (momentsOf (bytesOf f x))) ≡ At s p = rw q at e in
+        let y : momentIn f t x ≡ At s p = rw q at e in
         let i = in-stretch x s _ p y in
         record { radial = q ∙ ap found.There (i .0); moment = rw (i .0) at (i .1) }
 

@@ -12,7 +12,7 @@ use Rattle.gates.specs.Codes.{codesOf}
 use Rattle.gates.specs.Counting.{countOf, totalOf}
 use Rattle.gates.proofs.Codes.{codes-le}
 use Rattle.gates.proofs.Counting.{counts-all}
-use Rattle.moments.specs.Moments.{momentsOf, findIn, dataAt}
+use Rattle.moments.specs.Moments.{dataAt}
 use Rattle.reading.specs.declared.Stretch.{Stretch}
 use Rattle.walk.specs.declared.due.Walk.{Walk}
 use Rattle.reading.specs.declared.Onward.the-variants.{Whole, Stopped}
@@ -24,60 +24,21 @@ use Rattle.ask.specs.declared.places.Where.{Where}
 use Rattle.ask.specs.declared.places.Where.the-variants.{At, NoRadial, NoMoment}
 use Rattle.ask.specs.declared.tallies.Tally.{Tally}
 use Rattle.ask.specs.Answers.{codingOf}
-use Rattle.ask.specs.Places.{inStretch}
+use Rattle.ask.specs.Places.{momentIn}
 use Rattle.ask.specs.Tallies.{noTally, added, carried, tallyOne, tallyOver, tallyOf}
 
 -- ---- sums
 
 pub added-assoc : (a b c : Tally) → added (added a b) c ≡ added a (added b c)
-added-assoc a b c =
-    λ i. record {
-      radials = add-assoc (a .radials) (b .radials) (c .radials) i;
-      counts =
-          record {
-            below = add-assoc (a .counts .below) (b .counts .below) (c .counts .below) i;
-            folded = add-assoc (a .counts .folded) (b .counts .folded) (c .counts .folded) i;
-            «not_scanned» = add-assoc (a .counts .«not_scanned») (b .counts .«not_scanned») (c .counts .«not_scanned») i;
-            unknown = add-assoc (a .counts .unknown) (b .counts .unknown) (c .counts .unknown) i;
-            reserved = add-assoc (a .counts .reserved) (b .counts .reserved) (c .counts .reserved) i;
-            value = add-assoc (a .counts .value) (b .counts .value) (c .counts .value) i;
-            class = add-assoc (a .counts .class) (b .counts .class) (c .counts .class) i;
-          };
-    }
+added-assoc a b c = simp add-assoc
 
 pub none-added : (a : Tally) → added noTally a ≡ a
 unfolding countOf
-none-added a =
-    λ i. record {
-      radials = zero-add (a .radials) i;
-      counts =
-          record {
-            below = zero-add (a .counts .below) i;
-            folded = zero-add (a .counts .folded) i;
-            «not_scanned» = zero-add (a .counts .«not_scanned») i;
-            unknown = zero-add (a .counts .unknown) i;
-            reserved = zero-add (a .counts .reserved) i;
-            value = zero-add (a .counts .value) i;
-            class = zero-add (a .counts .class) i;
-          };
-    }
+none-added a = simp zero-add
 
 pub added-none : (a : Tally) → added a noTally ≡ a
 unfolding countOf
-added-none a =
-    λ i. record {
-      radials = add-zero (a .radials) i;
-      counts =
-          record {
-            below = add-zero (a .counts .below) i;
-            folded = add-zero (a .counts .folded) i;
-            «not_scanned» = add-zero (a .counts .«not_scanned») i;
-            unknown = add-zero (a .counts .unknown) i;
-            reserved = add-zero (a .counts .reserved) i;
-            value = add-zero (a .counts .value) i;
-            class = add-zero (a .counts .class) i;
-          };
-    }
+added-none a = simp add-zero
 
 pub tally-append : (f : List ℕ) (cut t : ℕ) (a b : List Stretch) → tallyOver f cut t (a ++ b) ≡ added (tallyOver f cut t a) (tallyOver f cut t b)
 unfolding tallyOver
@@ -116,9 +77,9 @@ own-le f s = simp length-take (omega arith)
 pub one-small : (f : List ℕ) (cut t : ℕ) (s : Stretch) → Small (tallyOne f cut t s) (s .end - s .start)
 one-small f cut t s = go (eqb (s .cut) cut)
   where
-    go : (b : Bool) → Small (cond b (carried (bytesOf f s) (inStretch s (findIn (bytesOf f s) t (momentsOf (bytesOf f s))))) noTally) (s .end - s .start)
+    go : (b : Bool) → Small (cond b (carried (bytesOf f s) (momentIn f t s)) noTally) (s .end - s .start)
     go true =
-        let c = carried-small (bytesOf f s) (inStretch s (findIn (bytesOf f s) t (momentsOf (bytesOf f s)))) in
+        let c = carried-small (bytesOf f s) (momentIn f t s) in
         let l = own-le f s in
         let g = c .gates in
         record { radials = c .radials; gates = omega arith }

@@ -10,13 +10,12 @@ use Rattle.gates.specs.Codes.{gatesIn}
 use Rattle.gates.specs.Counting.{inOrder, totalOf}
 use Rattle.gates.specs.Gates.{isMeasurement, Values}
 use Rattle.gates.specs.Telling.{Telling, refused, answered}
-use Rattle.moments.specs.Moments.{momentsOf, findIn}
 use Rattle.reading.specs.declared.Stretch.{Stretch}
 use Rattle.reading.specs.Reading.{stretches, bytesOf}
 use Rattle.ask.specs.declared.places.Where.{Where}
 use Rattle.ask.specs.declared.places.Where.the-variants.{At, NoRadial, NoMoment}
 use Rattle.ask.specs.Growth.{gateAsked}
-use Rattle.ask.specs.Places.{inStretch, whereIs}
+use Rattle.ask.specs.Places.{momentIn, whereIs}
 use Rattle.ask.specs.Tallies.{tallyOne, tallyOf}
 
 -- whether a gate's answer is of a kind
@@ -37,8 +36,7 @@ gatesAt b (At s p) = gatesIn (momentAt b p .length) (momentAt b p .«bin_length�
 
 -- the gates that a whole radial adds to a tally of a cut and type
 abbrev pub gatesOne : List ℕ → ℕ → ℕ → Stretch → ℕ
-gatesOne f cut t s =
-    cond (eqb (s .cut) cut) (gatesAt (bytesOf f s) (inStretch s (findIn (bytesOf f s) t (momentsOf (bytesOf f s))))) 0
+gatesOne f cut t s = cond (eqb (s .cut) cut) (gatesAt (bytesOf f s) (momentIn f t s)) 0
 
 unfoldable pub sumOver : (Stretch → ℕ) → List Stretch → ℕ
 sumOver g [] = 0

@@ -10,14 +10,17 @@ use Rattle.moments.specs.Moments.{momentsOf, findIn}
 use Rattle.ask.specs.declared.places.Where.{Where}
 use Rattle.ask.specs.declared.places.Where.the-variants.{At, NoRadial, NoMoment}
 
--- the moment of a type, in a radial's own stretch of the file
+-- the moment of a type, as the search in a radial's own stretch of the file found it
 unfoldable pub inStretch : Stretch → moment.Found → Where
 inStretch s (moment.the-variants.At p) = At s p
 inStretch s moment.the-variants.Nowhere = NoMoment
 
+abbrev pub momentIn : List ℕ → ℕ → Stretch → Where
+momentIn f t s = inStretch s (findIn (bytesOf f s) t (momentsOf (bytesOf f s)))
+
 unfoldable pub inFound : List ℕ → Found → ℕ → Where
 inFound f found.Nowhere t = NoRadial
-inFound f (found.There s) t = inStretch s (findIn (bytesOf f s) t (momentsOf (bytesOf f s)))
+inFound f (found.There s) t = momentIn f t s
 
 -- the moment of type t in the whole radial with a sequence number
 abbrev pub whereIs : List ℕ → ℕ → ℕ → Where

@@ -10,7 +10,7 @@ use Rattle.gates.specs.Codes.{codesOf}
 use Rattle.gates.specs.Counting.{countsOf, summed}
 use Rattle.gates.specs.Gates.{kindOf}
 use Rattle.gates.specs.Telling.{Telling, refused, answered}
-use Rattle.moments.specs.Moments.{momentsOf, findIn, dataAt}
+use Rattle.moments.specs.Moments.{dataAt}
 use Rattle.walk.specs.declared.due.Walk.{Walk}
 use Rattle.reading.specs.declared.Stretch.{Stretch}
 use Rattle.walk.specs.Due.{cutPlace}
@@ -21,7 +21,7 @@ use Rattle.ask.specs.declared.tallies.Tally.{Tally}
 use Rattle.ask.specs.declared.tallies.TallyAnswer.{TallyAnswer}
 use Rattle.ask.specs.declared.tallies.TallyAnswer.the-variants.{Counted, Refused}
 use Rattle.ask.specs.Answers.{codingOf}
-use Rattle.ask.specs.Places.{inStretch}
+use Rattle.ask.specs.Places.{momentIn}
 
 abbrev pub noTally : Tally
 noTally = record { radials = 0; counts = countsOf [] }
@@ -42,8 +42,7 @@ carried b (At s p) =
 
 -- what a whole radial adds to the tally of a cut and type
 abbrev pub tallyOne : List ℕ → ℕ → ℕ → Stretch → Tally
-tallyOne f cut t s =
-    cond (eqb (s .cut) cut) (carried (bytesOf f s) (inStretch s (findIn (bytesOf f s) t (momentsOf (bytesOf f s))))) noTally
+tallyOne f cut t s = cond (eqb (s .cut) cut) (carried (bytesOf f s) (momentIn f t s)) noTally
 
 unfoldable pub tallyOver : List ℕ → ℕ → ℕ → List Stretch → Tally
 tallyOver f cut t [] = noTally

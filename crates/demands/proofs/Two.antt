@@ -1,4 +1,5 @@
 -- Demand 2, by citing the crates that hold each of its parts. Assumes nothing.
+use mathlib.Core.Bool.{true, false}
 use mathlib.Core.List.{[], _∷_, map}
 use mathlib.Core.Path.{_≡_, refl}
 use Rattle.rules.proofs.Judged.{all-hold, fine-if, first-decides, decided-first}
@@ -11,7 +12,7 @@ use Rattle.task.proofs.Trips as task
 use Rattle.gates.specs.declared.Coding.{Coding}
 use Rattle.gates.specs.declared.Gate.the-variants.{BelowThreshold, RangeFolded, NotScanned, Unknown, Reserved}
 use Rattle.gates.specs.Gates.{gateOf}
-use Rattle.gates.proofs.Gates.{classes-only, no-measurement, special-told, value-told, class-told, value-kind, class-kind}
+use Rattle.gates.proofs.Gates.{classes-only, no-measurement, special-told, value-told, class-told, kind-is}
 use Rattle.gates.proofs.Exact.{lossless}
 use Rattle.gates.proofs.Nearest.{hundredths-near}
 use Rattle.reading.proofs.Exactly.{told-exactly}
@@ -48,8 +49,8 @@ codes =
       special = special-told;
       value = value-told;
       class = class-told;
-      value-kind = value-kind;
-      class-kind = class-kind;
+      value-kind = λ c code. kind-is c code true;
+      class-kind = λ c code. kind-is c code false;
       float = lossless;
       hundredths = hundredths-near;
     }

@@ -32,26 +32,23 @@ counts-turn c codes i h =
     let next = getD codes i 0 ∷ [] in
     rw (add-one i, take-suc codes i 0 h, map-append (kindOf c) here next) (sym (counts-append (map (kindOf c) here) (map (kindOf c) next)))
 
+-- what holds of each of the seven kinds holds of every number below 7
+each-kind : (P : ℕ → Type 0) → P 0 → P 1 → P 2 → P 3 → P 4 → P 5 → P 6 → (k : ℕ) → k < 7 → P k
+each-kind P a b c d e f g zero h = a
+each-kind P a b c d e f g (suc zero) h = b
+each-kind P a b c d e f g (suc (suc zero)) h = c
+each-kind P a b c d e f g (suc (suc (suc zero))) h = d
+each-kind P a b c d e f g (suc (suc (suc (suc zero)))) h = e
+each-kind P a b c d e f g (suc (suc (suc (suc (suc zero))))) h = f
+each-kind P a b c d e f g (suc (suc (suc (suc (suc (suc zero)))))) h = g
+each-kind P a b c d e f g (suc (suc (suc (suc (suc (suc (suc n))))))) h = absurd (omega arith)
+
 -- a count for each kind, in their order
 pub in-order : (kinds : List ℕ) (k : ℕ) → k < 7 → getD (inOrder (countsOf kinds)) k 0 ≡ countOf k kinds
-in-order kinds zero h = refl
-in-order kinds (suc zero) h = refl
-in-order kinds (suc (suc zero)) h = refl
-in-order kinds (suc (suc (suc zero))) h = refl
-in-order kinds (suc (suc (suc (suc zero)))) h = refl
-in-order kinds (suc (suc (suc (suc (suc zero))))) h = refl
-in-order kinds (suc (suc (suc (suc (suc (suc zero)))))) h = refl
-in-order kinds (suc (suc (suc (suc (suc (suc (suc n))))))) h = absurd (omega arith)
+in-order kinds = each-kind (λ k. getD (inOrder (countsOf kinds)) k 0 ≡ countOf k kinds) refl refl refl refl refl refl refl
 
 pub sum-in-order : (a b : Counts) (k : ℕ) → k < 7 → getD (inOrder (summed a b)) k 0 ≡ getD (inOrder a) k 0 + getD (inOrder b) k 0
-sum-in-order a b zero h = refl
-sum-in-order a b (suc zero) h = refl
-sum-in-order a b (suc (suc zero)) h = refl
-sum-in-order a b (suc (suc (suc zero))) h = refl
-sum-in-order a b (suc (suc (suc (suc zero)))) h = refl
-sum-in-order a b (suc (suc (suc (suc (suc zero))))) h = refl
-sum-in-order a b (suc (suc (suc (suc (suc (suc zero)))))) h = refl
-sum-in-order a b (suc (suc (suc (suc (suc (suc (suc n))))))) h = absurd (omega arith)
+sum-in-order a b = each-kind (λ k. getD (inOrder (summed a b)) k 0 ≡ getD (inOrder a) k 0 + getD (inOrder b) k 0) refl refl refl refl refl refl refl
 
 -- a kind that no code has is not counted
 pub count-none : (c : Coding) (k : ℕ) (codes : List ℕ) → ((code : ℕ) → kindOf c code ≡ k → ⊥) → countOf k (map (kindOf c) codes) ≡ 0
@@ -62,14 +59,7 @@ count-none c k (x ∷ codes) no-code = rw (ne-eqb (kindOf c x) k (no-code x), co
 -- a kind is counted once
 once : (k : ℕ) → k < 7 → totalOf (countsOf (k ∷ [])) ≡ 1
 unfolding countOf
-once zero h = refl
-once (suc zero) h = refl
-once (suc (suc zero)) h = refl
-once (suc (suc (suc zero))) h = refl
-once (suc (suc (suc (suc zero)))) h = refl
-once (suc (suc (suc (suc (suc zero))))) h = refl
-once (suc (suc (suc (suc (suc (suc zero)))))) h = refl
-once (suc (suc (suc (suc (suc (suc (suc n))))))) h = absurd (omega arith)
+once = each-kind (λ k. totalOf (countsOf (k ∷ [])) ≡ 1) refl refl refl refl refl refl refl
 
 -- every gate is counted once: the seven counts add up to the number of codes
 pub counts-all : (c : Coding) (codes : List ℕ) → totalOf (countsOf (map (kindOf c) codes)) ≡ length codes

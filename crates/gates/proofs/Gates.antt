@@ -97,11 +97,8 @@ module _ (c : Coding) (code : ℕ) where
       same false true e = absurd (omega arith)
       same false false e = refl
 
-  pub value-kind : (kindOf c code ≡ 5 → (isMeasurement (c .«data_type») ≡ true) × (5 ≤ code)) × (isMeasurement (c .«data_type») ≡ true → 5 ≤ code → kindOf c code ≡ 5)
-  value-kind = (kind-back true, λ is h. kind-other h true is)
-
-  pub class-kind : (kindOf c code ≡ 6 → (isMeasurement (c .«data_type») ≡ false) × (5 ≤ code)) × (isMeasurement (c .«data_type») ≡ false → 5 ≤ code → kindOf c code ≡ 6)
-  class-kind = (kind-back false, λ is h. kind-other h false is)
+  pub kind-is : (m : Bool) → (kindOf c code ≡ cond m 5 6 → (isMeasurement (c .«data_type») ≡ m) × (5 ≤ code)) × (isMeasurement (c .«data_type») ≡ m → 5 ≤ code → kindOf c code ≡ cond m 5 6)
+  kind-is m = (kind-back m, λ is h. kind-other h m is)
 
   pub value-told : isMeasurement (c .«data_type») ≡ true → 5 ≤ code
       → toldOf c code ≡ record { gate = Value (floatOf c code); difference = differenceOf c code; scale = c .scale; hundredths = hundredthsOf c code }
