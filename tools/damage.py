@@ -15,7 +15,7 @@ sys.dont_write_bytecode = True
 import reference as ref
 import volumes
 
-BASES = ('small', 'rich', 'rhi2', 'rhi5')
+BASES = ('small', 'rich', 'rhi2', 'rhi5', 'layers')
 
 
 # --------------------------------------------------------------------------
@@ -24,7 +24,7 @@ BASES = ('small', 'rich', 'rhi2', 'rhi5')
 def lengths():
     for base in BASES:
         data = volumes.named(base)
-        if base == 'small':
+        if base in ('small', 'layers'):
             wanted = set(range(len(data) + 1))
         else:
             edges = [0] + [b.end for b in ref.read(data).blocks]
@@ -46,8 +46,8 @@ def wrong_from_the_start():
 
 def large():
     """Full counts, and files longer than the listing program takes."""
-    for name in ('many_cuts', 'too_many_cuts', 'many_moments', 'full', 'longest',
-                 'long_cut', 'too_long_cut'):
+    for name in ('many_cuts', 'too_many_cuts', 'many_layers', 'too_many_layers', 'too_many_for_2',
+                 'many_moments', 'full', 'longest', 'long_cut', 'too_long_cut'):
         data = volumes.named(name)
         yield name, data
         yield f'{name}-longer-1', data + b'\0'

@@ -1,10 +1,13 @@
 #!/usr/bin/env python3
-"""What the program `numbers` prints: document 01's numbers that are run, and a cloud radar's file.
+"""What the program `numbers` prints: document 01's numbers that are run, an RHI of six layers (document 02, #103),
+and a cloud radar's file.
 
-    python3 tools/cloud.py > crates/numbers/stdin
+    (python3 tools/volumes.py layers; python3 tools/cloud.py) > crates/numbers/stdin
     python3 tools/numbers_expected.py > crates/numbers/stdout
 
-A line for each file: a label, the verdict, the bytes read and the whole radials.
+A line for each file: a label, the verdict, the bytes read and the whole radials. Of the small volume and of the six
+layers, every prefix, and the numbers 0 to 7 in the place of each radial's state, of the six layers in that of the scan
+type too: `at`, the place, and the number that stands there.
 """
 import sys
 
@@ -55,15 +58,25 @@ def goes_on(a, b):
             and counts(a) == counts(b))
 
 
-def runs():
-    """Every prefix of the small volume: (first, last) of each run, with what is told there."""
-    data = volumes.small()
+def runs(data):
+    """Every prefix of a volume: (first, last) of each run, with what is told there."""
     tells = [ref.read(data[:n]) for n in range(len(data) + 1)]
     first = 0
     for n in range(len(tells)):
         if n == len(data) or not goes_on(tells[n], tells[n + 1]):
             yield first, n, tells[first], tells[n]
             first = n + 1
+
+
+def with_each(data, *places):
+    """Every state, and every scan type, is among the numbers 0 to 6; 7 is neither."""
+    for place in places:
+        for value in range(8):
+            yield f'at {place} {value}', data[:place] + bytes([value]) + data[place + 1:]
+
+
+def state_places(data):
+    return [radial.place for radial in ref.read(data).radials]
 
 
 def cloud_files():
@@ -79,10 +92,19 @@ def show(files):
         print(f'{label}: {told(r)} {counts(r)}')
 
 
+def show_runs(data):
+    for first, last, r, s in runs(data):
+        print(f'prefixes {first} to {last}: {told(r)} to {told(s)} {counts(s)}')
+
+
 def main():
     show(files())
-    for first, last, r, s in runs():
-        print(f'prefixes {first} to {last}: {told(r)} to {told(s)} {counts(s)}')
+    show_runs(volumes.small())
+    show(with_each(volumes.small(), *state_places(volumes.small())))
+    layers = volumes.named('layers')
+    show([('six layers', layers)])
+    show(with_each(layers, 160 + ref.PLACE['task', 'scan type'], *state_places(layers)))
+    show_runs(layers)
     show(cloud_files())
 
 

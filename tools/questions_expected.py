@@ -1,8 +1,8 @@
 #!/usr/bin/env python3
-"""What the program `questions` prints: the answers of documents 01 and 02 on the volume `rich`, and on
-shortened and damaged copies of it.
+"""What the program `questions` prints: the answers of documents 01 and 02 on the volume `rich`, on shortened
+and damaged copies of it, and on the volume `layers`.
 
-    python3 tools/volumes.py rich > crates/questions/stdin
+    (python3 tools/volumes.py rich; python3 tools/volumes.py layers) > crates/questions/stdin
     python3 tools/questions_expected.py > crates/questions/stdout
 
 The stored output was worked out here, by the reference reader, which was written from the
@@ -160,7 +160,7 @@ def lines(name, question, r, end):
 
 def section(label, data):
     r = ref.read(data)
-    end = len(r.radials) + 2
+    end = min(len(r.radials) + 2, 10)
     yield f'{label}: bytes {len(data)}, whole radials {len(r.radials)}'
     for n in range(end):
         yield f'radial {n}: {radial(r, n)}'
@@ -209,7 +209,7 @@ def main():
     data = volumes.rich()
     for line in whole(data):
         print(line)
-    for label, copy in copies(data):
+    for label, copy in *copies(data), ('six layers', volumes.named('layers')):
         for line in section(label, copy):
             print(line)
 

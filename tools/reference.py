@@ -116,17 +116,16 @@ def bit(mask, t):
     return mask >> (t - 1) & 1
 
 
-def cut_number_ok(v, f, at):                            # 8, second clause
-    return v == 1 or not is_rhi(f['scan type'])
+def cut_number_ok(v, f, at):                            # 8, second clause; #103: of type 2 alone
+    return v == 1 or f['scan type'] != 2
 
 
 def state_ok(v, f, at):                                 # 10, "States"
+    if at.rhi:                                          # #103: each cut opened by 5, closed by 6
+        return v == 5 if at.in_cut == 0 else v in (1, 6)
     if at.in_cut == 0:
-        if at.cut == 1:
-            return v == (5 if at.rhi else 3)
-        return v == 0
-    closing = 2 if at.cut < at.cuts else 6 if at.rhi else 4
-    return v == 1 or v == closing
+        return v == (3 if at.cut == 1 else 0)
+    return v == 1 or v == (2 if at.cut < at.cuts else 4)
 
 
 def length_ok(v, f, at):                                # 24, "Tiling"

@@ -62,11 +62,11 @@ def build(spec):
         for j, radial in enumerate(cut['radials'], 1):
             sequence += 1
             if j == 1:
-                state = (5 if rhi else 3) if c == 1 else 0
+                state = 5 if rhi else 3 if c == 1 else 0
             elif j < len(cut['radials']):
                 state = 1
             else:
-                state = 2 if c < len(cuts) else 6 if rhi else 4
+                state = 6 if rhi else 2 if c < len(cuts) else 4
             moments = radial['moments']
             out.append(block('radial', {
                 'state': state, 'sequence': sequence, 'radial number': j,
@@ -155,10 +155,23 @@ def rhi_spec(scan_type):
     return volume([cut(radials, mask(2, 4), mask(4))], **{'scan type': scan_type})
 
 
-def many_cuts_spec(count=50):
+def layers_spec(scan_type=5):
+    """Document 02, #103: an RHI of six azimuths, a cut for each; states 5 and 6, and between
+    them a 1 in the last cut. Each cut has other gates, a second moment every other one."""
+    cuts = []
+    for k in range(6):
+        z = [moment(2, [k, 2, 5 + k, 200])]
+        w = [moment(4, words(1, 258 + k))] if k % 2 else []
+        at = {'azimuth': 60.0 * k}
+        radials = [radial(*z, **at), radial(*w, *z, **at)] + [radial(*z, **at)] * (k == 5)
+        cuts.append(cut(radials, mask(2, 4), mask(4), azimuth=60.0 * k))
+    return volume(cuts, **{'scan type': scan_type})
+
+
+def many_cuts_spec(count=50, scan_type=4):
     """The most cuts that pass, two radials each."""
     pair = [radial(moment(2, [2])), radial(moment(2, [0]))]
-    return volume([cut(pair) for _ in range(count)], **{'scan type': 4})
+    return volume([cut(pair) for _ in range(count)], **{'scan type': scan_type})
 
 
 def many_moments_spec():
@@ -187,7 +200,9 @@ def long_cut_spec(count=1000):
 SPECS = {
     'small': small_spec, 'rich': rich_spec,
     'rhi2': lambda: rhi_spec(2), 'rhi5': lambda: rhi_spec(5),
+    'layers': layers_spec, 'too_many_for_2': lambda: layers_spec(2),
     'many_cuts': many_cuts_spec, 'too_many_cuts': lambda: many_cuts_spec(51),
+    'many_layers': lambda: many_cuts_spec(50, 5), 'too_many_layers': lambda: many_cuts_spec(51, 5),
     'many_moments': many_moments_spec, 'full': full_spec, 'longest': longest_spec,
     'long_cut': long_cut_spec, 'too_long_cut': lambda: long_cut_spec(1001),
 }
@@ -259,6 +274,21 @@ def check():
     assert ref.listing(data) == (
         'verdict complete 872 2\nradial 1 672 3 1\nmoment 2 768 4\n'
         'radial 2 772 4 1\nmoment 2 868 4\n')
+
+    # document 02, #103: type 5 in several cuts, each opened by 5 and closed by 6; type 2 in one
+    data = named('layers')
+    r = ref.read(data)
+    assert (r.verdict, r.bytes_read, len(r.cuts)) == ('complete', len(data), 6)
+    assert [q.state for q in r.radials] == [5, 6] * 5 + [5, 1, 6]
+    assert told(named('many_layers'))[0] == 'complete'
+    for name in 'too_many_for_2', 'too_many_layers':
+        assert told(named(name)) == (('refused', 8, 336), 160, 0)
+    for n, q in enumerate(r.radials):
+        first = n in (0, 2, 4, 6, 8, 10)
+        for state in range(8):
+            tried = data[:q.place] + bytes([state]) + data[q.place + 1:]
+            if state not in ([5] if first else [1, 6]):
+                assert told(tried) == (('refused', 10, q.place), q.place, n)
 
     # the other volumes: valid ones are complete, and written block by block the same
     for name in SPECS:

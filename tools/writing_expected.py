@@ -64,13 +64,13 @@ def yes(right):
     return 'yes' if right else 'no'
 
 
-def print_volume(scan_type, moments, counts):
+def print_volume(scan_type, moments, counts, size=2500):
     data = volumes.build(spec(scan_type, moments, counts))
     r = ref.read(data)
     print(f'scan type {scan_type}, moments {moments}: {told(r.verdict)} {r.bytes_read} '
           f'{len(r.radials)}')
     print(*ref.listing(data).splitlines()[1:], sep='\n')
-    print(f'room {checksum(room_of(2500, data))}')
+    print(f'room {checksum(room_of(size, data))}')
     index = ref.index(data)
     changed = index[:22] + b'\xff' + index[23:]
     print(f'index {len(index)} {index.hex()} {yes(ref.index_right(data, index))} '
@@ -82,6 +82,17 @@ def print_put(label, written, room, kind, block):
     answer = ref.write(written, room, kind, block)
     assert answer[0] == 'refused', label
     print(f'{label}: {told(answer)}, room {before} {checksum(room)}, written {written} {written}')
+
+
+def print_layers():
+    """Document 02, #103: type 2 in two layers; type 5 with a layer closed by 2, and one opened by 0."""
+    data = volumes.build(spec(2, 1, [2, 2]))
+    print_put('8, type 2 in two layers', 160, room_of(1500, data[:160]), 'task', data[160:416])
+    data = volumes.build(spec(5, 1, [2, 2]))
+    places = [radial.place for radial in ref.read(data).radials]
+    for label, n, state in ('10, a layer closed by 2', 1, 2), ('10, a layer opened by 0', 2, 0):
+        at = places[n]
+        print_put(label, at, room_of(1500, data[:at]), 'radial', bytes([state]) + data[at + 1:at + 64])
 
 
 def print_refusals():
@@ -102,6 +113,7 @@ def print_refusals():
     put('34 ahead of 8, 51 cuts before all else', 1000, 0, 'task', task)
     put('8, 51 cuts', 1000, 160, 'task', task)
     put('8 ahead of 33, 51 cuts in a room of 160 bytes', 160, 160, 'task', task)
+    print_layers()
     put('35, three bytes of four', 1000, 768, 'data', b'\5\6\7')
     put('33, a room of 735 bytes', 735, 672, 'radial', opening)
     put('37, more bytes than the room has', 1000, 672, 'radial', opening, 1001)
@@ -127,6 +139,7 @@ def main():
         print_volume(scan_type, moments, [3])
     for scan_type, moments in ((0, 3), (1, 1), (3, 2), (4, 3), (6, 1)):
         print_volume(scan_type, moments, [3, 3, 3])
+    print_volume(5, 1, [3] * 6, 4000)                   # document 02, #103
     print_refusals()
 
 

@@ -1,3 +1,4 @@
 pub mod One
+pub mod States
 pub mod Two
 pub mod Three

@@ -46,6 +46,7 @@ use Rattle.index.specs.Answer.{rightFor}
 use Rattle.index.specs.Index.{indexOf}
 use Rattle.writer.specs.Block.{Block}
 use Rattle.writer.specs.Trips.{Fits, TakenWhen, Keeps, CopyOf, SameBlock, Run, SameBlocks, SamePlace, ReadBack}
+use Rattle.demands.specs.States.{StateRule}
 
 -- What a volume is, `volume/Volume` says by the place of each block in the structure, with no word of how a file is read.
 -- `Means` (`volume/Meaning`): a file is the bytes of a volume exactly when reading tells that it is complete (`reads`,
@@ -140,6 +141,8 @@ pub record IndexRight : Type 0 where
 pub record DemandTwo : Type 0 where
   pub volumes : Volumes
   pub exactly : RefusedExactly
+  -- which states are allowed where, as a table (`States`)
+  pub states : StateRule
   pub radials : WholeRadials
   pub codes : Codes
   pub rows : Rows

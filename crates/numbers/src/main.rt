@@ -1,7 +1,10 @@
-// Runs the numbers of document 01 that are run ("Numbers to try"), and a cloud radar's file, on standard input: for each
-// file, a line of what reading tells, its verdict, the bytes read and the whole radials.
+// Runs the numbers of document 01 that are run ("Numbers to try"), an RHI of six layers (document 02, #103) and a cloud radar's
+// file, which follow each other on standard input: for each file, a line of what reading tells, its verdict, the bytes read
+// and the whole radials.
 ghost use Prim.Native.Nat.{_≤_};
+ghost use lib.ListN.{length};
 use libc::STDIN_FILENO;
+use printing::behind;
 use printing::first;
 use printing::number;
 use printing::print_reading;
@@ -142,14 +145,14 @@ fn goes_on(a: Reading, b: Reading) -> bool {
     m - 1 == n
 }
 
-// The last length of the run of prefixes that starts with one, among those of at most 872 bytes.
+// The last length of the run of prefixes that starts with one.
 fn run_end(file: &[u8], first: usize) -> usize
-    requires { ⌜ first ≤ 872 ⌝ }
-    ensures { λ r. ⌜ (first ≤ r) × (r ≤ 872) ⌝ }
+    requires { ⌜ first ≤ length (now file) ⌝ }
+    ensures { λ r. ⌜ (first ≤ r) × (r ≤ length (now (file .entry))) ⌝ }
 {
     let mut last = first;
     let mut r = read_first(file, first);
-    while last < 872 {
+    while last < file.len() {
         let next = read_first(file, last + 1);
         if !goes_on(r, next) {
             return last;
@@ -173,32 +176,91 @@ fn print_run(file: &[u8], first: usize, last: usize) {
     print_reading(read_first(file, last));
 }
 
-// Every prefix of the small volume, by runs of lengths at which the same is read and each byte more wants one less.
+// Every prefix of a volume, by runs of lengths at which the same is read and each byte more wants one less.
 fn prefixes(file: &[u8]) {
     let mut first = 0;
-    while first <= 872 {
+    while first <= file.len() {
         let last = run_end(file, first);
         print_run(file, first, last);
         first = last + 1;
     }
 }
 
+// What is told of the first n bytes with another byte at a place, which holds the old one again afterwards.
+fn with_byte(buf: &mut [u8; 65536], n: usize, place: usize, value: u8) {
+    if place < 65536 {
+        let old = buf[place];
+        buf[place] = value;
+        word(b"at");
+        number(place as u64);
+        number(value as u64);
+        tell(b":", buf, n);
+        buf[place] = old;
+    }
+}
+
+// Every state, and every scan type, is among the numbers 0 to 6; 7 is neither.
+fn with_each(buf: &mut [u8; 65536], n: usize, place: usize) {
+    with_byte(buf, n, place, 0);
+    with_byte(buf, n, place, 1);
+    with_byte(buf, n, place, 2);
+    with_byte(buf, n, place, 3);
+    with_byte(buf, n, place, 4);
+    with_byte(buf, n, place, 5);
+    with_byte(buf, n, place, 6);
+    with_byte(buf, n, place, 7);
+}
+
+// Each state in the places of the small volume's two.
+fn small_states() {
+    let mut buf = io::large_buffer();
+    fill(&mut buf);
+    with_each(&mut buf, 872, 672);
+    with_each(&mut buf, 872, 772);
+}
+
+// An RHI of six layers (document 02, #103): each scan type; each state in the places of its radials', of which five cuts have
+// two and the last has three; every prefix.
+fn layers(buf: &mut [u8; 65536]) {
+    tell(b"six layers:", buf, 3360);
+    with_each(buf, 3360, 324);
+    with_each(buf, 3360, 1952);
+    with_each(buf, 3360, 2052);
+    with_each(buf, 3360, 2152);
+    with_each(buf, 3360, 2252);
+    with_each(buf, 3360, 2388);
+    with_each(buf, 3360, 2488);
+    with_each(buf, 3360, 2588);
+    with_each(buf, 3360, 2688);
+    with_each(buf, 3360, 2824);
+    with_each(buf, 3360, 2924);
+    with_each(buf, 3360, 3024);
+    with_each(buf, 3360, 3124);
+    with_each(buf, 3360, 3260);
+    prefixes(first(buf, 3360));
+}
+
+// Where the cloud radar's file begins, behind the six layers.
+const CLOUD: usize = 3360;
+
+fn tell_cloud(label: &[u8], buf: &[u8; 65536]) {
+    tell(label, behind(buf, CLOUD), 1216);
+}
+
 // A cloud radar's file has a volume's magic and other blocks (source document 002). Its station's heights stand where a
 // volume has latitude and longitude, so a high station is refused there; a low one in the task, where a volume has the
 // polarization and this file a text.
-fn cloud_radar() {
-    let mut buf = io::large_buffer();
-    let n = io::read_full(STDIN_FILENO, &mut buf);
-    tell(b"cloud radar:", &buf, n);
+fn cloud_radar(buf: &mut [u8; 65536]) {
+    tell_cloud(b"cloud radar:", buf);
     // antenna and ground at 512 and 508 metres
-    buf[74] = 0;
-    buf[75] = 0x44;
-    buf[78] = 0xfe;
-    buf[79] = 0x43;
-    tell(b"cloud radar, high station:", &buf, n);
+    buf[CLOUD + 74] = 0;
+    buf[CLOUD + 75] = 0x44;
+    buf[CLOUD + 78] = 0xfe;
+    buf[CLOUD + 79] = 0x43;
+    tell_cloud(b"cloud radar, high station:", buf);
     // generic type 3
-    buf[8] = 3;
-    tell(b"cloud radar, spectra:", &buf, n);
+    buf[CLOUD + 8] = 3;
+    tell_cloud(b"cloud radar, spectra:", buf);
 }
 
 fn main() {
@@ -207,6 +269,10 @@ fn main() {
     microseconds();
     lengths();
     let v = small();
-    prefixes(&v);
-    cloud_radar();
+    prefixes(&v[0..872]);
+    small_states();
+    let mut buf = io::large_buffer();
+    io::read_full(STDIN_FILENO, &mut buf);
+    layers(&mut buf);
+    cloud_radar(&mut buf);
 }

@@ -1,6 +1,6 @@
-// What the programs share: words, numbers and listings on standard output, and the start of a slice.
+// What the programs share: words, numbers and listings on standard output, and the start and the rest of a slice.
 ghost use mathlib.Core.Path.{_≡_};
-ghost use lib.ListN.{take};
+ghost use lib.ListN.{take, drop};
 use libc::STDOUT_FILENO;
 use listing::Cursor;
 use listing::Line;
@@ -16,6 +16,16 @@ pub fn first(s: &[u8], n: usize) -> &[u8]
         return &s[0..n];
     }
     s
+}
+
+// What follows the first n bytes, or nothing where there are fewer.
+pub fn behind(s: &[u8], n: usize) -> &[u8]
+    ensures { λ r. ⌜ now r ≡ drop n (now (s .entry)) ⌝ }
+{
+    if n <= s.len() {
+        return &s[n..];
+    }
+    &s[0..0]
 }
 
 pub fn word(text: &[u8]) {

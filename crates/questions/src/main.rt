@@ -1,6 +1,7 @@
-// Asks of the volume on standard input, and of shortened and damaged copies of it, what is told of radials, moments,
-// gates, rows and tallies (document 01, "What reading tells"; document 02, #101), and prints the answers. The places named
-// below are those of the volume `rich` of tools/volumes.py, of 2,535 bytes, eight radials and three cuts.
+// Asks of the first volume on standard input, of shortened and damaged copies of it, and of the volume that follows it, what is
+// told of radials, moments, gates, rows and tallies (document 01, "What reading tells"; document 02, #101 and #103), and prints
+// the answers. The places named below are those of the volume `rich` of tools/volumes.py, of 2,535 bytes, eight radials and
+// three cuts; the volume behind it is `layers`, an RHI of six cuts with two radials each, and one more in the last.
 
 mod gates_told;
 mod lines;
@@ -11,6 +12,7 @@ mod words;
 
 use crate::lines::Question;
 use libc::STDIN_FILENO;
+use printing::behind;
 use printing::first;
 use printing::newline;
 use printing::number;
@@ -105,9 +107,15 @@ fn damaged(label: &[u8], buf: &mut [u8; 65536], n: usize, place: usize, value: u
     exchange(buf, place, old);
 }
 
+// The volume behind the first.
+fn second(buf: &[u8; 65536], end: usize) {
+    section(b"six layers", behind(first(buf, end), 2535));
+}
+
 fn main() {
     let mut buf = io::large_buffer();
-    let n = io::read_full(STDIN_FILENO, &mut buf);
+    let end = io::read_full(STDIN_FILENO, &mut buf);
+    let n = 2535;
     let file = first(&buf, n);
     section(b"whole", file);
     each_gate(file);
@@ -119,4 +127,5 @@ fn main() {
     damaged(b"bad magic", &mut buf, n, 0, 0);
     damaged(b"bad process mode in cut 3", &mut buf, n, 928, 0);
     damaged(b"another scale in radial 1", &mut buf, n, 1252, 7);
+    second(&buf, end);
 }

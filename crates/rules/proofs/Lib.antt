@@ -1,3 +1,4 @@
+pub mod Allowed
 pub mod Four
 pub mod Judged
 pub mod Numbers

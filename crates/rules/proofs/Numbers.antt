@@ -112,6 +112,15 @@ unfolding rhi
 not-turned scan h =
     rw (exactly w32 2 scan (lit< tt), exactly w32 5 scan (lit< tt), ne-eqb scan 2 (λ e. h (inl e)), ne-eqb scan 5 (λ e. h (inr e)))
 
+-- how many cuts a task may have, as a match on its scan type tells
+pub one-cut : (scan : ℕ) → scan ≡ 2 → mostCuts scan ≡ 1
+unfolding mostCuts
+one-cut scan e = rw (exactly w32 2 scan (lit< tt), eq-eqb scan 2 e)
+
+pub many-cuts : (scan : ℕ) → (scan ≡ 2 → ⊥) → mostCuts scan ≡ 50
+unfolding mostCuts
+many-cuts scan h = rw (exactly w32 2 scan (lit< tt), ne-eqb scan 2 h)
+
 -- numbers of the state rules, none of which reaches the sign bit
 small-if : (b : Bool) (x y n : ℕ) → x < n → y < n → cond b x y < n
 small-if true x y n h k = h
@@ -119,41 +128,39 @@ small-if false x y n h k = k
 
 pub mostCuts-small : (scan : ℕ) → mostCuts scan < 2147483648
 unfolding mostCuts
-mostCuts-small scan = small-if (rhi scan) 1 50 2147483648 (lit< tt) (lit< tt)
+mostCuts-small scan = small-if (is 2 (int scan)) 1 50 2147483648 (lit< tt) (lit< tt)
 
 pub opening-small : (scan cut : ℕ) → opening scan cut < 2147483648
 unfolding opening
-opening-small scan cut = small-if (leb cut 1) (cond (rhi scan) 5 3) 0 2147483648 (small-if (rhi scan) 5 3 2147483648 (lit< tt) (lit< tt)) (lit< tt)
+opening-small scan cut = small-if (rhi scan) 5 (cond (leb cut 1) 3 0) 2147483648 (lit< tt) (small-if (leb cut 1) 3 0 2147483648 (lit< tt) (lit< tt))
 
 pub closing-small : (scan cuts cut : ℕ) → closing scan cuts cut < 2147483648
 unfolding closing
-closing-small scan cuts cut = small-if (ltb cut cuts) 2 (cond (rhi scan) 6 4) 2147483648 (lit< tt) (small-if (rhi scan) 6 4 2147483648 (lit< tt) (lit< tt))
+closing-small scan cuts cut = small-if (rhi scan) 6 (cond (ltb cut cuts) 2 4) 2147483648 (lit< tt) (small-if (ltb cut cuts) 2 4 2147483648 (lit< tt) (lit< tt))
 
-unlike-if : (b : Bool) (x y z : ℕ) → eqb z x ≡ false → eqb z y ≡ false → eqb z (cond b x y) ≡ false
-unlike-if true x y z h k = h
-unlike-if false x y z h k = k
-
--- a state that no first radial of a cut has, and one that closes no cut
-pub no-opening : (scan cut x : ℕ) → ((x ≡ 0) ⊎ ((x ≡ 3) ⊎ (x ≡ 5)) → ⊥) → is (opening scan cut) (int x) ≡ false
-unfolding opening
-no-opening scan cut x h =
-    exactly w32 (opening scan cut) x (opening-small scan cut)
-    ∙ unlike-if (leb cut 1) (cond (rhi scan) 5 3) 0 x
-    (unlike-if (rhi scan) 5 3 x (ne-eqb x 5 (λ e. h (inr (inr e)))) (ne-eqb x 3 (λ e. h (inr (inl e)))))
-    (ne-eqb x 0 (λ e. h (inl e)))
-
-pub no-closing : (scan cuts cut x : ℕ) → ((x ≡ 2) ⊎ ((x ≡ 4) ⊎ (x ≡ 6)) → ⊥) → is (closing scan cuts cut) (int x) ≡ false
-unfolding closing
-no-closing scan cuts cut x h =
-    exactly w32 (closing scan cuts cut) x (closing-small scan cuts cut)
-    ∙ unlike-if (ltb cut cuts) 2 (cond (rhi scan) 6 4) x
-    (ne-eqb x 2 (λ e. h (inl e)))
-    (unlike-if (rhi scan) 6 4 x (ne-eqb x 6 (λ e. h (inr (inr e)))) (ne-eqb x 4 (λ e. h (inr (inl e)))))
+-- a first radial closes no cut
+pub opens-only : (scan cuts cut : ℕ) → opening scan cut ≡ closing scan cuts cut → ⊥
+unfolding opening closing
+opens-only scan cuts cut = go (rhi scan) (leb cut 1) (ltb cut cuts)
+  where
+    go : (r a d : Bool) → _≡_ {A = ℕ} (cond r 5 (cond a 3 0)) (cond r 6 (cond d 2 4)) → ⊥
+    go true a d e = omega arith
+    go false true true e = omega arith
+    go false true false e = omega arith
+    go false false true e = omega arith
+    go false false false e = omega arith
 
 -- what a range, an exact number and a right count say of the number
 pub least : (w : Width) (lo hi x : ℕ) → hi < 2 ^ hbits w → among (pos lo) (pos hi) (toZ w x) ≡ true → lo ≤ x
 unfolding within
 least w lo hi x h e = leb-true lo x (both _ _ (sym (by-bits w lo hi x h) ∙ e) .0)
+
+pub most : (w : Width) (lo hi x : ℕ) → hi < 2 ^ hbits w → among (pos lo) (pos hi) (toZ w x) ≡ true → x ≤ hi
+unfolding within
+most w lo hi x h e = leb-true x hi (both (leb lo x) (leb x hi) (sym (by-bits w lo hi x h) ∙ e) .1)
+
+pub exact-if : (n x : ℕ) → n < 2147483648 → x ≡ n → is n (int x) ≡ true
+exact-if n x h e = exactly w32 n x h ∙ eq-eqb x n e
 
 pub exact : (n x : ℕ) → is n (int x) ≡ true → x ≡ n
 exact n x e =

@@ -7,7 +7,7 @@ pub fn cut_number_ok(scan: u32, x: u32) -> bool
     ensures { λ r. ⌜ r ≡ cutNumberOk scan x ⌝ }
 {
     match scan {
-        2 | 5 => match x {
+        2 => match x {
             1 => true,
             _ => false,
         },
@@ -21,24 +21,21 @@ pub fn cut_number_ok(scan: u32, x: u32) -> bool
 fn opening(scan: u32, cut: u32) -> u32
     ensures { λ r. ⌜ r ≡ openingOf scan cut ⌝ }
 {
-    match cut {
-        0..=1 => match scan {
-            2 | 5 => 5,
-            _ => 3,
+    match scan {
+        2 | 5 => 5,
+        _ => match cut {
+            0..=1 => 3,
+            _ => 0,
         },
-        _ => 0,
     }
 }
 
 pub fn closing(scan: u32, cuts: u32, cut: u32) -> u32
     ensures { λ r. ⌜ r ≡ closingOf scan cuts cut ⌝ }
 {
-    if cut < cuts {
-        return 2;
-    }
     match scan {
         2 | 5 => 6,
-        _ => 4,
+        _ => { if cut < cuts { 2 } else { 4 } }
     }
 }
 
@@ -47,14 +44,10 @@ pub fn state_ok(scan: u32, cuts: u32, cut: u32, in_cut: usize, x: u32) -> bool
     ensures { λ r. ⌜ r ≡ stateOk scan cuts cut «in_cut» x ⌝ }
 {
     match in_cut {
-        0 => match x {
-            0 | 3 | 5 => x == opening(scan, cut),
-            _ => false,
-        },
+        0 => x == opening(scan, cut),
         _ => match x {
             1 => true,
-            2 | 4 | 6 => x == closing(scan, cuts, cut),
-            _ => false,
+            _ => x == closing(scan, cuts, cut),
         },
     }
 }

@@ -2,9 +2,9 @@
 use Prim.Native.Nat.{ℕ, _+_, _-_, _%_, _≤_}
 use native.Mathlib.Omega.{arith}
 use mathlib.Core.Path.{_≡_, sym, _∙_}
-use mathlib.Core.Bool.{Bool, true, false, cond, not, _&&_}
+use mathlib.Core.Bool.{true, false, not, _&&_}
 use mathlib.Core.List.{List, [], _∷_}
-use lib.Dec.{eqb, leb, ltb, lit<}
+use lib.Dec.{eqb, lit<}
 use lib.IntN.{pos}
 use lib.ListN.{length}
 use mir.Syntax.{w32}
@@ -15,9 +15,9 @@ use Rattle.le.specs.Le.{int}
 use Rattle.rules.specs.Masks.{bit, typeOk}
 use Rattle.rules.proofs.Seen.{set-keeps, set-has}
 use Rattle.rules.specs.Ranges.{within, among}
-use Rattle.rules.specs.States.{stateOk, opening, closing, rhi}
 use Rattle.rules.specs.Tiling.{lengthOk, tiles}
-use Rattle.rules.proofs.Numbers.{by-bits, exact}
+use Rattle.rules.proofs.Allowed.{first-allowed}
+use Rattle.rules.proofs.Numbers.{by-bits, opens-only}
 use Rattle.cut.specs.declared.Cut.{Cut}
 use Rattle.radial.specs.declared.Radial.{Radial}
 use Rattle.task.specs.declared.Task.{Task}
@@ -71,23 +71,11 @@ masked : (c : Cut) (r : Radial) (ps before : List VolumeMoment) → MomentsOk c 
 masked c r [] before ok = tt
 masked c r (p ∷ ps) before ok = (admitted _ _ _ (ok .1 .0) .masked, masked c r ps (p ∷ before) (ok .3))
 
--- a first radial does not close its cut
-apart : (a r d : Bool) → _≡_ {A = ℕ} (cond a (cond r 5 3) 0) (cond d 2 (cond r 6 4)) → ⊥
-apart true true true e = omega arith
-apart true true false e = omega arith
-apart true false true e = omega arith
-apart true false false e = omega arith
-apart false true true e = omega arith
-apart false true false e = omega arith
-apart false false true e = omega arith
-apart false false false e = omega arith
-
 two-radials : (t : Task) (c : Cut) (k before : ℕ) (l : List VolumeRadial) → LayerOk t c k before 0 l → 2 ≤ length l
-unfolding stateOk opening closing
 two-radials t c k before [] ok = absurd ok
 two-radials t c k before (b ∷ []) ok =
-    let e = exact (opening (t .«scan_type») k) (b .header .state) (ok .0 .rules .0) in
-    absurd (apart (leb k 1) (rhi (t .«scan_type»)) (ltb k (t .«cut_number»)) (sym e ∙ ok .1))
+    let e = first-allowed (t .«scan_type») (t .«cut_number») k (b .header .state) .0 (ok .0 .rules .0) in
+    absurd (opens-only (t .«scan_type») (t .«cut_number») k (sym e ∙ ok .1))
 two-radials t c k before (b ∷ (n ∷ ns)) ok = omega arith
 
 module _ (t : Task) (c : Cut) (k before inCut : ℕ) (b : VolumeRadial) (ok : RadialOk t c k before inCut b) where

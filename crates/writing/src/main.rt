@@ -26,7 +26,7 @@ fn print_right(file: &[u8], room: &[u8], n: usize) {
 }
 
 // The index, whether it is right, and whether it is with a byte changed in the place of the second radial.
-fn print_written(file: &[u8], room: &mut [u8; 100], n: usize) {
+fn print_written(file: &[u8], room: &mut [u8; 200], n: usize) {
     number(n as u64);
     word(b" ");
     print_bytes(first(room, n));
@@ -36,7 +36,7 @@ fn print_written(file: &[u8], room: &mut [u8; 100], n: usize) {
 }
 
 fn print_index(file: &[u8]) {
-    let mut room = [0xa5u8; 100];
+    let mut room = [0xa5u8; 200];
     let answer = index::write(file, &mut room);
     word(b"index");
     match answer {
@@ -91,6 +91,24 @@ fn three_cuts(scan_type: u32, moments: u8) {
     print_volume(scan_type, moments, &room, w);
 }
 
+// Type 5 in six layers, each with the states of its own (document 02, #103).
+fn six_layers(moments: u8) {
+    let mut room = [0xa5u8; 4000];
+    let mut w = put_front(&mut room, 5, 6);
+    w = put_cut(w, &mut room);
+    w = put_cut(w, &mut room);
+    w = put_cut(w, &mut room);
+    w = put_cut(w, &mut room);
+    w = put_cut(w, &mut room);
+    w = put_radials(w, &mut room, moments, 1, 5, 6);
+    w = put_radials(w, &mut room, moments, 2, 5, 6);
+    w = put_radials(w, &mut room, moments, 3, 5, 6);
+    w = put_radials(w, &mut room, moments, 4, 5, 6);
+    w = put_radials(w, &mut room, moments, 5, 5, 6);
+    w = put_radials(w, &mut room, moments, 6, 5, 6);
+    print_volume(5, moments, &room, w);
+}
+
 fn main() {
     pair(0, 1);
     pair(1, 2);
@@ -104,5 +122,6 @@ fn main() {
     three_cuts(3, 2);
     three_cuts(4, 3);
     three_cuts(6, 1);
+    six_layers(1);
     refusals::run();
 }

@@ -5,8 +5,10 @@ use crate::telling::onward;
 use crate::telling::print_put;
 use crate::telling::print_rooms;
 use crate::telling::sum;
+use crate::volumes::put_cut;
 use crate::volumes::put_front;
 use crate::volumes::put_pair;
+use crate::volumes::put_radial;
 use crate::volumes::put_start;
 use index::Answer;
 use printing::first;
@@ -17,22 +19,31 @@ use printing::word;
 use radial::Radial;
 use walk::due::Walk;
 
-// The first radial of a volume, with one moment of one-byte gates.
-fn opening() -> Radial {
-    records::radial(Facts {
+// A radial with one moment of one-byte gates.
+fn narrow(state: u8, sequence: u8, number: u8, cut: u8) -> Facts {
+    Facts {
         moments: 1,
-        state: 3,
-        sequence: 1,
-        number: 1,
-        cut: 1,
-    })
+        state,
+        sequence,
+        number,
+        cut,
+    }
 }
 
-// A radial onto a state and a room as they are given.
-fn try_radial(label: &[u8], w: Walk, room: &mut [u8]) {
+// The first radial of a volume.
+fn opening() -> Radial {
+    records::radial(narrow(3, 1, 1, 1))
+}
+
+fn try_header(label: &[u8], w: Walk, room: &mut [u8], header: Radial) {
     let before = sum(room);
-    let p = writer::put_radial(w, room, opening());
+    let p = writer::put_radial(w, room, header);
     print_put(label, w, before, p, room);
+}
+
+// A volume's first radial onto a state and a room as they are given.
+fn try_radial(label: &[u8], w: Walk, room: &mut [u8]) {
+    try_header(label, w, room, opening());
 }
 
 fn after_the_end() {
@@ -52,10 +63,10 @@ fn short_room() {
     try_radial(b"33, a room of 735 bytes", w, &mut room);
 }
 
-// A task of 51 cuts onto a state and a room as they are given.
-fn try_task(label: &[u8], w: Walk, room: &mut [u8]) {
+// A task onto a state and a room as they are given.
+fn try_task(label: &[u8], w: Walk, room: &mut [u8], scan_type: u32, cuts: u32) {
     let before = sum(room);
-    let p = writer::put_task(w, room, records::task(0, 51));
+    let p = writer::put_task(w, room, records::task(scan_type, cuts));
     print_put(label, w, before, p, room);
 }
 
@@ -65,16 +76,35 @@ fn fifty_one_cuts() {
         b"34 ahead of 8, 51 cuts before all else",
         Walk::begin(),
         &mut room,
+        0,
+        51,
     );
     let w = put_start(&mut room);
-    try_task(b"8, 51 cuts", w, &mut room);
+    try_task(b"8, 51 cuts", w, &mut room, 0, 51);
     let mut short = [0xa5u8; 160];
     let v = put_start(&mut short);
     try_task(
         b"8 ahead of 33, 51 cuts in a room of 160 bytes",
         v,
         &mut short,
+        0,
+        51,
     );
+}
+
+// Type 2 in two layers; in type 5 of two layers, the first closed by 2, and the second opened by 0 (document 02, #103).
+fn layers() {
+    let mut room = [0xa5u8; 1500];
+    let u = put_start(&mut room);
+    try_task(b"8, type 2 in two layers", u, &mut room, 2, 2);
+    let mut w = put_front(&mut room, 5, 2);
+    w = put_cut(w, &mut room);
+    w = put_radial(w, &mut room, narrow(5, 1, 1, 1));
+    let closing = records::radial(narrow(2, 2, 2, 1));
+    try_header(b"10, a layer closed by 2", w, &mut room, closing);
+    w = put_radial(w, &mut room, narrow(6, 2, 2, 1));
+    let second = records::radial(narrow(0, 3, 1, 2));
+    try_header(b"10, a layer opened by 0", w, &mut room, second);
 }
 
 fn short_data() {
@@ -151,6 +181,7 @@ pub(crate) fn run() {
     after_the_end();
     another_kind();
     fifty_one_cuts();
+    layers();
     short_data();
     short_room();
     other_ends();

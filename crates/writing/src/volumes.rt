@@ -39,7 +39,7 @@ fn put_wide(w: Walk, room: &mut [u8], last: u8) -> Walk {
 }
 
 // A radial, with its sequence number in the last gate of each of its moments.
-fn put_radial(w: Walk, room: &mut [u8], f: Facts) -> Walk {
+pub(crate) fn put_radial(w: Walk, room: &mut [u8], f: Facts) -> Walk {
     let v = onward(writer::put_radial(w, room, records::radial(f)));
     let moments = f.moments;
     match moments {
@@ -54,12 +54,11 @@ fn put_radial(w: Walk, room: &mut [u8], f: Facts) -> Walk {
 
 // The sequence number of a cut's first radial, where each cut has three.
 fn first_sequence(cut: u8) -> u8
-    ensures { λ r. ⌜ r ≤ 7 ⌝ }
+    ensures { λ r. ⌜ r ≤ 16 ⌝ }
 {
     match cut {
-        1 => 1,
-        2 => 4,
-        _ => 7,
+        1..=6 => 3 * cut - 2,
+        _ => 1,
     }
 }
 

@@ -1,49 +1,35 @@
-use mathlib.Core.Logic.{⊎-elim}
-use native.Mathlib.Omega.{arith}
 use borrow.Author.Needs.{needs}
 use borrow.Author.Tests.{eq-eqb, ne-eqb}
 use lib.Dec.{lit<}
 use mir.Syntax.{w32}
 use Rattle.rules.specs.States.{stateOk, opening, closing}
-use Rattle.rules.proofs.Numbers.{exactly, opening-small, closing-small, no-opening, no-closing}
+use Rattle.rules.proofs.Numbers.{exactly, opening-small, closing-small}
 use Rattle.rules.proofs.states.state_ok.Statement.{statement}
 use Rattle.rules.proofs.states.state_ok.Tie as tie
 
 returns : tie.Need-returns
 unfolding stateOk
 returns c =
-    let a = c .before .before .before .args in
-    rw (eq-eqb (a .in-cut) 0 (c .before .before .match .keys1), exactly w32 (opening (a .scan) (a .cut)) (a .x) (opening-small (a .scan) (a .cut)), c .opening .ensures)
+    let a = c .before .before .args in
+    rw (eq-eqb (a .in-cut) 0 (c .before .match .keys1), exactly w32 (opening (a .scan) (a .cut)) (a .x) (opening-small (a .scan) (a .cut)), c .opening .ensures)
 
 returns-2 : tie.Need-returns-2
 unfolding stateOk
-returns-2 c = rw (eq-eqb (c .before .before .args .in-cut) 0 (c .before .match .keys1), no-opening _ _ _ (c .match2 .rest .1))
+returns-2 c =
+    let a = c .before .before .args in
+    rw (ne-eqb (a .in-cut) 0 (c .before .match .rest .1), exactly w32 1 (a .x) (lit< tt), eq-eqb _ _ (c .match2 .keys1))
 
 returns-3 : tie.Need-returns-3
 unfolding stateOk
-returns-3 c = rw (ne-eqb (c .before .before .args .in-cut) 0 (c .before .match .rest .1), exactly w32 1 (c .before .before .args .x) (lit< tt), eq-eqb _ _ (c .match3 .keys1))
-
-returns-4 : tie.Need-returns-4
-unfolding stateOk
-returns-4 c =
+returns-3 c =
     let a = c .before .before .before .args in
     rw (
       ne-eqb (a .in-cut) 0 (c .before .before .match .rest .1),
       exactly w32 1 (a .x) (lit< tt),
-      ne-eqb (a .x) 1 (λ e. ⊎-elim (λ k. omega arith) (⊎-elim (λ k. omega arith) (λ k. omega arith)) (c .before .match3 .keys2)),
+      ne-eqb (a .x) 1 (c .before .match2 .rest .1),
       exactly w32 (closing (a .scan) (a .cuts) (a .cut)) (a .x) (closing-small (a .scan) (a .cuts) (a .cut)),
       c .closing .ensures,
     )
 
-returns-5 : tie.Need-returns-5
-unfolding stateOk
-returns-5 c =
-    rw (
-      ne-eqb (c .before .before .args .in-cut) 0 (c .before .match .rest .1),
-      exactly w32 1 (c .before .before .args .x) (lit< tt),
-      ne-eqb _ _ (c .match3 .rest .0 .1),
-      no-closing _ _ _ _ (c .match3 .rest .1),
-    )
-
 pub state-ok-spec : {M : Type 1} → statement M
-state-ok-spec = tie.close (tie.spec (λ c κs. search needs) (λ c κs. search needs) returns returns-2 returns-3 returns-4 returns-5)
+state-ok-spec = tie.close (tie.spec (λ c κs. search needs) (λ c κs. search needs) returns returns-2 returns-3)
