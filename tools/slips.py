@@ -16,6 +16,9 @@ import sys
 
 OWN_CUT, FIRST_CUT = 'cut_place(w.count.cut)', 'cut_place(1)'
 OWN, FIRST = 'cutPlace (w .count .cut)', 'cutPlace 1'
+BY_SCAN, BY_CUT = 'cond (rhi scan) 6 (cond (ltb cut cuts) 2 4)', 'cond (ltb cut cuts) 2 (cond (rhi scan) 6 4)'
+CLOSING = 'crates/rules/proofs/states/closing/Proof.antt'
+EARLIER, LAST = (f'{law} (a .cut) (a .cuts) (omega arith)' for law in ('lt-ltb', 'le-ltb'))
 
 SLIPS = {
     # every radial judged by the masks of cut 1 (numbers 20 and 23)
@@ -52,6 +55,29 @@ SLIPS = {
          'unknown = countOf 4 kinds;\n  reserved = countOf 3 kinds;'),
         ('crates/gates/src/lib.rt', 'Gate::Unknown => u.unknown = a.unknown + 1,\n        Gate::Reserved => u.reserved = a.reserved + 1,',
          'Gate::Unknown => u.reserved = a.reserved + 1,\n        Gate::Reserved => u.unknown = a.unknown + 1,'),
+    ],
+    # types 2 and 5 taken for each other in how many cuts a task may have (number 8; document 02, #103)
+    'two_in_layers': [
+        ('crates/rules/specs/States.antt', 'cond (is 2 (int scan)) 1 50', 'cond (is 5 (int scan)) 1 50'),
+        ('crates/rules/src/states.rt', '2 => match x {', '5 => match x {'),
+        ('crates/rules/proofs/Numbers.antt', 'scan ≡ 2 → mostCuts', 'scan ≡ 5 → mostCuts'),
+        ('crates/rules/proofs/Numbers.antt', '(scan ≡ 2 → ⊥) → mostCuts', '(scan ≡ 5 → ⊥) → mostCuts'),
+        ('crates/rules/proofs/Numbers.antt', 'exactly w32 2 scan (lit< tt), eq-eqb scan 2 e', 'exactly w32 5 scan (lit< tt), eq-eqb scan 5 e'),
+        ('crates/rules/proofs/Numbers.antt', 'exactly w32 2 scan (lit< tt), ne-eqb scan 2 h', 'exactly w32 5 scan (lit< tt), ne-eqb scan 5 h'),
+        ('crates/rules/proofs/Numbers.antt', 'small-if (is 2 (int scan))', 'small-if (is 5 (int scan))'),
+    ],
+    # document 01's own rule for type 5, before document 02, #103: a cut before the last closed by 2
+    'layer_closed_by_two': [
+        ('crates/rules/specs/States.antt', BY_SCAN, BY_CUT),
+        ('crates/rules/src/states.rt', '    match scan {\n        2 | 5 => 6,\n        _ => if cut < cuts { 2 } else { 4 },',
+         '    if cut < cuts {\n        return 2;\n    }\n    match scan {\n        2 | 5 => 6,\n        _ => 4,'),
+        ('crates/rules/proofs/Numbers.antt', 'small-if (rhi scan) 6 (cond (ltb cut cuts) 2 4) 2147483648 (lit< tt) (small-if (ltb cut cuts) 2 4 ',
+         'small-if (ltb cut cuts) 2 (cond (rhi scan) 6 4) 2147483648 (lit< tt) (small-if (rhi scan) 6 4 '),
+        ('crates/rules/proofs/Numbers.antt', '(cond r 6 (cond d 2 4))', '(cond d 2 (cond r 6 4))'),
+        ('crates/rules/proofs/Numbers.antt', 'go true a d e = omega arith', 'go true a true e = omega arith\n    go true a false e = omega arith'),
+        (CLOSING, 'returns c = rw (turned _ (c .match .keys1))', f'returns c = let a = c .before .args in rw ({EARLIER})'),
+        (CLOSING, f'rw (not-turned _ (c .before .match .rest .1), {EARLIER})', f'rw ({LAST}, turned _ (c .match .keys1))'),
+        (CLOSING, f'rw (not-turned _ (c .before .match .rest .1), {LAST})', f'rw ({LAST}, not-turned _ (c .match .rest .1))'),
     ],
     # the types seen not cleared at a new radial (number 20)
     'seen_not_cleared': [

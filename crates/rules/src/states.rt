@@ -35,7 +35,7 @@ pub fn closing(scan: u32, cuts: u32, cut: u32) -> u32
 {
     match scan {
         2 | 5 => 6,
-        _ => { if cut < cuts { 2 } else { 4 } }
+        _ => if cut < cuts { 2 } else { 4 },
     }
 }
 

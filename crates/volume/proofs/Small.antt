@@ -107,7 +107,7 @@ radial-fits state n i k hs hn hi hk = record { state = hs; «spot_blank» = lit<
 
 -- the blocks before the radials keep their rules
 head : Hold (genericRules small-generic) × Hold (siteRules small-site) × Hold (taskRules (small-task 1)) × Hold (taskRules (small-task 2))
-unfolding small-generic small-site small-task among angle between le ofInt ofBits notBelowZero cutNumberOk mostCuts rhi also
+unfolding small-generic small-site small-task among angle between le ofInt ofBits notBelowZero cutNumberOk mostCuts also
 head = (
   all-hold (genericRules small-generic) refl,
   all-hold (siteRules small-site) refl,

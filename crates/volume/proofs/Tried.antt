@@ -7,7 +7,7 @@ use lib.ListN.{length, take}
 use Rattle.le.specs.Le.{le, bytes, part, run}
 use Rattle.rules.specs.Check.{First, here, behind}
 use Rattle.rules.specs.Ranges.{among, notBelowZero}
-use Rattle.rules.specs.States.{rhi, mostCuts, cutNumberOk}
+use Rattle.rules.specs.States.{mostCuts, cutNumberOk}
 use Rattle.cut.specs.Cut.{cutBytes}
 use Rattle.generic.specs.Generic.{genericBytes}
 use Rattle.moment.specs.Moment.{momentBytes}
@@ -88,7 +88,7 @@ first-radials = first-told .radials
 
 -- 51 cuts: refused 8 at 336
 first-broken : First (taskRules (taskAt (taskBytes (small-task 51)) 0)) 8 176
-unfolding small-task taskAt taskOf taskBytes run le bytes part among notBelowZero cutNumberOk mostCuts rhi
+unfolding small-task taskAt taskOf taskBytes run le bytes part among notBelowZero cutNumberOk mostCuts
 first-broken = behind _ _ refl (behind _ _ refl (behind _ _ refl (here _ _ refl)))
 
 pub cuts-refused : told (genericBytes small-generic ++ siteBytes small-site ++ taskBytes (small-task 51)) ≡ 2 ∷ 8 ∷ 336 ∷ []
