@@ -38,7 +38,7 @@ def main():
 
     sources = [read(path) for path in glob.glob('crates/*/src/*.rt')]
     outputs = [read(path).splitlines() for path in glob.glob('crates/*/stdout')]
-    outputs.append([verdict(name) for name in ('short', 'cloud')])
+    outputs.append([verdict(name) for name in ('short', 'cloud', 'layers')])
     strange = [block for block in blocks(read('README.md')) if not block.startswith('./knot')
                and not any(block in source for source in sources)
                and not any(in_order(block, lines) for lines in outputs)]

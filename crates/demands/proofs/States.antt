@@ -8,7 +8,7 @@ use native.Mathlib.Decide.{decLt}
 use native.Mathlib.Omega.{arith}
 use borrow.Author.Tests.{le-leb, lt-leb, lt-ltb, le-ltb, eq-eqb, ne-eqb}
 use lib.Dec.{eqb, ltb, lit<}
-use lib.ListN.{length}
+use lib.ListN.{length, getD}
 use mir.Syntax.{w32}
 use Rattle.rules.specs.States.{rhi, mostCuts, opening, closing}
 use Rattle.rules.proofs.Allowed.{cuts-allowed, first-allowed, other-allowed}
@@ -68,41 +68,22 @@ says-five =
     says 5 (many 50 (from 5 6) (from 5 6) (from 5 6) (from 5 6)) (many-cuts 5 (λ e. omega arith))
     (λ n k c. rw (same (eqb n 1) (eqb k 1) (ltb k n) (from 5 6)) (rhi-states 5 n k (inr refl)))
 
-lines : Lines 0 table
+line-says : (scan : ℕ) → scan < length table → Says scan (lineOf scan)
 unfolding table
-lines = (
-  says-flat 0 (λ e. omega arith) (λ e. omega arith),
-  (
-    says-flat 1 (λ e. omega arith) (λ e. omega arith),
-    (
-      says-two,
-      (
-        says-flat 3 (λ e. omega arith) (λ e. omega arith),
-        (
-          says-flat 4 (λ e. omega arith) (λ e. omega arith),
-          (
-            says-five,
-            (
-              says-flat 6 (λ e. omega arith) (λ e. omega arith),
-              tt,
-            ),
-          ),
-        ),
-      ),
-    ),
-  ),
-)
-
-line-says : (scan : ℕ) → scan < 7 → Says scan (lineOf scan)
-unfolding table
-line-says zero h = lines .0
-line-says (suc zero) h = lines .1 .0
-line-says (suc (suc zero)) h = lines .1 .1 .0
-line-says (suc (suc (suc zero))) h = lines .1 .1 .1 .0
-line-says (suc (suc (suc (suc zero)))) h = lines .1 .1 .1 .1 .0
-line-says (suc (suc (suc (suc (suc zero))))) h = lines .1 .1 .1 .1 .1 .0
-line-says (suc (suc (suc (suc (suc (suc zero)))))) h = lines .1 .1 .1 .1 .1 .1 .0
+line-says zero h = says-flat 0 (λ e. omega arith) (λ e. omega arith)
+line-says (suc zero) h = says-flat 1 (λ e. omega arith) (λ e. omega arith)
+line-says (suc (suc zero)) h = says-two
+line-says (suc (suc (suc zero))) h = says-flat 3 (λ e. omega arith) (λ e. omega arith)
+line-says (suc (suc (suc (suc zero)))) h = says-flat 4 (λ e. omega arith) (λ e. omega arith)
+line-says (suc (suc (suc (suc (suc zero))))) h = says-five
+line-says (suc (suc (suc (suc (suc (suc zero)))))) h = says-flat 6 (λ e. omega arith) (λ e. omega arith)
 line-says (suc (suc (suc (suc (suc (suc (suc n))))))) h = absurd (omega arith)
+
+each-line : (scan : ℕ) (ls : List Line) (d : Line) → ((i : ℕ) → i < length ls → Says (scan + i) (getD ls i d)) → Lines scan ls
+each-line scan [] d says = tt
+each-line scan (l ∷ ls) d says =
+    let here : scan + 0 ≡ scan = omega arith in
+    (rw here at (says 0 (omega arith)), each-line (suc scan) ls d (λ i h. let next : scan + suc i ≡ suc scan + i = omega arith in rw next at (says (suc i) (omega arith))))
 
 -- a layer's radials behind the first
 to-the-last : (t : Task) (c : Cut) (k before inCut : ℕ) (bs : List VolumeRadial) → 1 ≤ inCut → LayerOk t c k before inCut bs
@@ -144,7 +125,7 @@ unfolding table
 layered v is =
     let t = v .task in
     let rules = is .headed .task .1 in
-    let scan : t .«scan_type» < 7 = let h = most w32 0 6 (t .«scan_type») (lit< tt) (rules .1 .0) in omega arith in
+    let scan : t .«scan_type» < length table = let h = most w32 0 6 (t .«scan_type») (lit< tt) (rules .1 .0) in omega arith in
     let line = line-says (t .«scan_type») scan in
     let cuts = line .cuts (t .«cut_number») .0 (rules .1 .1 .1 .0) in
     let number : length (v .layers) ≡ t .«cut_number» = as-many t 1 0 (v .cuts) (v .layers) (is .layers) ∙ is .headed .number in
@@ -156,4 +137,4 @@ layered v is =
     }
 
 pub state-rule : StateRule
-state-rule = record { lines = lines; volumes = layered }
+state-rule = record { lines = each-line 0 table (one (from 0 0)) (λ i h. let same : 0 + i ≡ i = omega arith in rw same (line-says i h)); volumes = layered }
