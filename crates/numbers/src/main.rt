@@ -219,32 +219,32 @@ fn small_states() {
     with_each(&mut buf, 872, 772);
 }
 
+// The bytes of the six layers, behind which the cloud radar's file begins.
+const LAYERS: usize = 3360;
+
 // An RHI of six layers (document 02, #103): each scan type; each state in the places of its radials', of which five cuts have
 // two and the last has three; every prefix.
 fn layers(buf: &mut [u8; 65536]) {
-    tell(b"six layers:", buf, 3360);
-    with_each(buf, 3360, 324);
-    with_each(buf, 3360, 1952);
-    with_each(buf, 3360, 2052);
-    with_each(buf, 3360, 2152);
-    with_each(buf, 3360, 2252);
-    with_each(buf, 3360, 2388);
-    with_each(buf, 3360, 2488);
-    with_each(buf, 3360, 2588);
-    with_each(buf, 3360, 2688);
-    with_each(buf, 3360, 2824);
-    with_each(buf, 3360, 2924);
-    with_each(buf, 3360, 3024);
-    with_each(buf, 3360, 3124);
-    with_each(buf, 3360, 3260);
-    prefixes(first(buf, 3360));
+    tell(b"six layers:", buf, LAYERS);
+    with_each(buf, LAYERS, 324);
+    with_each(buf, LAYERS, 1952);
+    with_each(buf, LAYERS, 2052);
+    with_each(buf, LAYERS, 2152);
+    with_each(buf, LAYERS, 2252);
+    with_each(buf, LAYERS, 2388);
+    with_each(buf, LAYERS, 2488);
+    with_each(buf, LAYERS, 2588);
+    with_each(buf, LAYERS, 2688);
+    with_each(buf, LAYERS, 2824);
+    with_each(buf, LAYERS, 2924);
+    with_each(buf, LAYERS, 3024);
+    with_each(buf, LAYERS, 3124);
+    with_each(buf, LAYERS, 3260);
+    prefixes(first(buf, LAYERS));
 }
 
-// Where the cloud radar's file begins, behind the six layers.
-const CLOUD: usize = 3360;
-
 fn tell_cloud(label: &[u8], buf: &[u8; 65536]) {
-    tell(label, behind(buf, CLOUD), 1216);
+    tell(label, behind(buf, LAYERS), 1216);
 }
 
 // A cloud radar's file has a volume's magic and other blocks (source document 002). Its station's heights stand where a
@@ -253,13 +253,13 @@ fn tell_cloud(label: &[u8], buf: &[u8; 65536]) {
 fn cloud_radar(buf: &mut [u8; 65536]) {
     tell_cloud(b"cloud radar:", buf);
     // antenna and ground at 512 and 508 metres
-    buf[CLOUD + 74] = 0;
-    buf[CLOUD + 75] = 0x44;
-    buf[CLOUD + 78] = 0xfe;
-    buf[CLOUD + 79] = 0x43;
+    buf[LAYERS + 74] = 0;
+    buf[LAYERS + 75] = 0x44;
+    buf[LAYERS + 78] = 0xfe;
+    buf[LAYERS + 79] = 0x43;
     tell_cloud(b"cloud radar, high station:", buf);
     // generic type 3
-    buf[CLOUD + 8] = 3;
+    buf[LAYERS + 8] = 3;
     tell_cloud(b"cloud radar, spectra:", buf);
 }
 

@@ -107,9 +107,9 @@ fn damaged(label: &[u8], buf: &mut [u8; 65536], n: usize, place: usize, value: u
     exchange(buf, place, old);
 }
 
-// The volume behind the first.
-fn second(buf: &[u8; 65536], end: usize) {
-    section(b"six layers", behind(first(buf, end), 2535));
+// The volume behind the first n bytes.
+fn second(buf: &[u8; 65536], n: usize, end: usize) {
+    section(b"six layers", behind(first(buf, end), n));
 }
 
 fn main() {
@@ -127,5 +127,5 @@ fn main() {
     damaged(b"bad magic", &mut buf, n, 0, 0);
     damaged(b"bad process mode in cut 3", &mut buf, n, 928, 0);
     damaged(b"another scale in radial 1", &mut buf, n, 1252, 7);
-    second(&buf, end);
+    second(&buf, n, end);
 }

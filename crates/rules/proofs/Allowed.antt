@@ -1,7 +1,7 @@
 -- What number 8 and the state rule allow, both ways, by the numbers of specs/States. Assumes nothing.
-use mathlib.Core.Path.{_≡_, refl, sym, _∙_}
-use mathlib.Core.Bool.{Bool, true, false, _||_}
-use mathlib.Core.Logic.{_⊎_, inl, inr, ⊎-elim, _↔_}
+use mathlib.Core.Path.{_≡_, refl, sym}
+use mathlib.Core.Bool.{Bool, true, false, _||_, or-true}
+use mathlib.Core.Logic.{_⊎_, inl, inr, _↔_}
 use Prim.Native.Nat.{ℕ, _≤_}
 use native.Mathlib.Omega.{arith}
 use borrow.Author.Tests.{ne-eqb}
@@ -10,13 +10,13 @@ use mir.Syntax.{w32}
 use Rattle.le.specs.Le.{int}
 use Rattle.rules.specs.Ranges.{is}
 use Rattle.rules.specs.States.{mostCuts, cutNumberOk, opening, closing, stateOk}
-use Rattle.rules.proofs.Numbers.{inside, least, most, exact, exact-if, mostCuts-small, opening-small, closing-small}
+use Rattle.rules.proofs.Numbers.{inside, some-cut, most, exact, exact-if, mostCuts-small, opening-small, closing-small}
 
 pub cuts-allowed : (scan n : ℕ) → (cutNumberOk scan n ≡ true) ↔ ((1 ≤ n) × (n ≤ mostCuts scan))
 unfolding cutNumberOk
 cuts-allowed scan n =
     let small = mostCuts-small scan in
-    (λ e. (least w32 1 (mostCuts scan) n small e, most w32 1 (mostCuts scan) n small e), λ h. sym (inside w32 1 (mostCuts scan) n small (h .0) (omega arith)))
+    (λ e. (some-cut scan n e, most w32 1 (mostCuts scan) n small e), λ h. sym (inside w32 1 (mostCuts scan) n small (h .0) (omega arith)))
 
 pub first-allowed : (scan cuts cut s : ℕ) → (stateOk scan cuts cut 0 s ≡ true) ↔ (s ≡ opening scan cut)
 unfolding stateOk
@@ -31,10 +31,6 @@ other-allowed scan cuts cut count s h =
     there true b one closes e = inl (one refl)
     there false b one closes e = inr (closes e)
 
-    either : (a : Bool) → (a || true) ≡ true
-    either true = refl
-    either false = refl
-
     back : (s ≡ 1) ⊎ (s ≡ closing scan cuts cut) → (is 1 (int s) || is (closing scan cuts cut) (int s)) ≡ true
     back (inl e) = rw (exact-if 1 s (lit< tt) e)
-    back (inr e) = rw (exact-if (closing scan cuts cut) s (closing-small scan cuts cut) e) (either (is 1 (int s)))
+    back (inr e) = rw (exact-if (closing scan cuts cut) s (closing-small scan cuts cut) e) (or-true (is 1 (int s)))
