@@ -106,6 +106,21 @@ fn cut_numbers() {
     tell(b"cut number 51:", &v, 872);
 }
 
+// As many as of any task for scan type 5, and one for scan type 2, of which the first radial's state then is wrong.
+fn cut_numbers_of_rhi() {
+    let mut v = small();
+    v[324] = 5;
+    v[336] = 50;
+    tell(b"cut number 50, scan type 5:", &v, 872);
+    v[336] = 51;
+    tell(b"cut number 51, scan type 5:", &v, 872);
+    v[324] = 2;
+    v[336] = 2;
+    tell(b"cut number 2, scan type 2:", &v, 872);
+    v[336] = 1;
+    tell(b"cut number 1, scan type 2:", &v, 872);
+}
+
 fn microseconds() {
     let mut v = small();
     v[704] = 0x3f;
@@ -266,6 +281,7 @@ fn cloud_radar(buf: &mut [u8; 65536]) {
 fn main() {
     wrong_magic();
     cut_numbers();
+    cut_numbers_of_rhi();
     microseconds();
     lengths();
     let v = small();
