@@ -8,7 +8,7 @@ use Rattle.printing.proofs.behind.Statement.{statement}
 use Rattle.printing.proofs.behind.Tie as tie
 
 returns : tie.Need-returns
-returns c = let a = c .before .before .args in rw (take-all (length (a .s .now) - a .n) (drop (a .n) (a .s .now)) (simp length-drop (omega arith)))
+returns c = let a = c .before .before .args in take-all (length (a .s .now) - a .n) (drop (a .n) (a .s .now)) (simp length-drop (omega arith))
 
 returns-2 : tie.Need-returns-2
 returns-2 c = let a = c .before .before .args in sym (drop-of-length-le (a .s .now) {i = a .n} (omega arith))
