@@ -1,5 +1,6 @@
--- The table of states holds of the definitions, line by line, and so of every volume. Assumes nothing.
-use mathlib.Core.Path.{_≡_, refl, _∙_}
+-- The table of states holds of the definitions, line by line, and so of every volume and of what is accepted of any file.
+-- Assumes nothing.
+use mathlib.Core.Path.{_≡_, refl, sym, _∙_}
 use mathlib.Core.Bool.{Bool, true, false, cond}
 use mathlib.Core.List.{List, [], _∷_}
 use mathlib.Core.Logic.{_⊎_, inl, inr, ⊎-elim, dite}
@@ -8,16 +9,17 @@ use native.Mathlib.Decide.{decLt}
 use native.Mathlib.Omega.{arith}
 use borrow.Author.Tests.{le-leb, lt-leb, lt-ltb, le-ltb, eq-eqb, ne-eqb}
 use lib.Dec.{eqb, ltb, lit<}
-use lib.ListN.{length, getD}
+use lib.ListN.{length, getD, length-append}
 use mir.Syntax.{w32}
 use Rattle.rules.specs.States.{rhi, mostCuts, opening, closing}
 use Rattle.rules.proofs.Allowed.{cuts-allowed, first-allowed, other-allowed}
 use Rattle.rules.proofs.Numbers.{turned, not-turned, one-cut, many-cuts, most}
 use Rattle.cut.specs.declared.Cut.{Cut}
 use Rattle.task.specs.declared.Task.{Task}
-use Rattle.volume.specs.Volume.{VolumeRadial, Volume, IsVolume, LayerOk, LayersOk}
+use Rattle.volume.specs.Accepted.{Begun, BegunOk, UnclosedOk}
+use Rattle.volume.specs.Volume.{VolumeRadial, Volume, IsVolume, TaskOk, RadialOk, Closes, LayerOk, LayersOk}
 use Rattle.volume.proofs.Sense.{sense}
-use Rattle.demands.specs.States.{States, from, Line, one, many, table, mostIn, statesIn, CutOf, Says, Lines, ToTheLast, InOrder, LayersInOrder, lineOf, Layered, StateRule}
+use Rattle.demands.specs.States.{States, from, Line, one, many, table, mostIn, statesIn, CutOf, Says, Lines, ToTheLast, InOrder, LayersInOrder, Ones, Unclosed, lineOf, Layered, StateRule}
 
 -- a line holds where it has the definitions' numbers
 says : (scan : ℕ) (l : Line) → mostCuts scan ≡ mostIn l
@@ -85,15 +87,23 @@ each-line scan (l ∷ ls) d says =
     let here : scan + 0 ≡ scan = omega arith in
     (rw here at (says 0 (omega arith)), each-line (suc scan) ls d (λ i h. let next : scan + suc i ≡ suc scan + i = omega arith in rw next at (says (suc i) (omega arith))))
 
--- a layer's radials behind the first
+-- a radial that neither opens nor closes its cut
+between : (t : Task) (c : Cut) (k before inCut : ℕ) (b : VolumeRadial) → 1 ≤ inCut → RadialOk t c k before inCut b → (Closes t k b → ⊥) → b .header .state ≡ 1
+between t c k before inCut b h ok stays =
+    ⊎-elim (λ e. e) (λ e. absurd (stays e)) (other-allowed (t .«scan_type») (t .«cut_number») k inCut (b .header .state) h .0 (ok .rules .0))
+
+-- a layer's radials behind the first, closed and not
 to-the-last : (t : Task) (c : Cut) (k before inCut : ℕ) (bs : List VolumeRadial) → 1 ≤ inCut → LayerOk t c k before inCut bs
     → ToTheLast (closing (t .«scan_type») (t .«cut_number») k) bs
 to-the-last t c k before inCut [] h ok = absurd ok
 to-the-last t c k before inCut (b ∷ []) h ok = ok .1
-to-the-last t c k before inCut (b ∷ (n ∷ ns)) h ok = (
-  ⊎-elim (λ e. e) (λ e. absurd (ok .1 e)) (other-allowed (t .«scan_type») (t .«cut_number») k inCut (b .header .state) h .0 (ok .0 .rules .0)),
-  to-the-last t c k (suc before) (suc inCut) (n ∷ ns) (omega arith) (ok .2),
-)
+to-the-last t c k before inCut (b ∷ (n ∷ ns)) h ok =
+    (between t c k before inCut b h (ok .0) (ok .1), to-the-last t c k (suc before) (suc inCut) (n ∷ ns) (omega arith) (ok .2))
+
+ones : (t : Task) (c : Cut) (k before inCut : ℕ) (bs : List VolumeRadial) → 1 ≤ inCut → UnclosedOk t c k before inCut bs → Ones bs
+ones t c k before inCut [] h ok = tt
+ones t c k before inCut (b ∷ bs) h ok =
+    (between t c k before inCut b h (ok .0) (ok .1), ones t c k (suc before) (suc inCut) bs (omega arith) (ok .2))
 
 module _ (t : Task) (l : Line) (line : Says (t .«scan_type») l) (some : t .«cut_number» ≤ mostIn l) where
   in-order : (c : Cut) (k before : ℕ) (bs : List VolumeRadial) → CutOf l (t .«cut_number») k → LayerOk t c k before 0 bs
@@ -105,6 +115,12 @@ module _ (t : Task) (l : Line) (line : Says (t .«scan_type») l) (some : t .«c
     rw (line .closes (t .«cut_number») k of) at (to-the-last t c k (suc before) 1 (n ∷ ns) (omega arith) (ok .2)),
   )
 
+  unclosed : (c : Cut) (k before : ℕ) (bs : List VolumeRadial) → CutOf l (t .«cut_number») k → UnclosedOk t c k before 0 bs
+      → Unclosed (statesIn l (t .«cut_number») k) bs
+  unclosed c k before [] of ok = tt
+  unclosed c k before (b ∷ bs) of ok =
+      (line .first (t .«cut_number») k (b .header .state) of .0 (ok .0 .rules .0), ones t c k (suc before) 1 bs (omega arith) (ok .2))
+
   layers-in-order : (k before : ℕ) (cs : List Cut) (ls : List (List VolumeRadial)) → 1 ≤ k → k + length ls ≤ suc (t .«cut_number»)
       → LayersOk t k before cs ls → LayersInOrder l (t .«cut_number») k ls
   layers-in-order k before cs [] first last ok = tt
@@ -114,27 +130,45 @@ module _ (t : Task) (l : Line) (line : Says (t .«scan_type») l) (some : t .«c
     layers-in-order (suc k) (before + length bs) cs ls (omega arith) (omega arith) (ok .1),
   )
 
+-- an accepted task is in the table, and has a line there that it keeps
+record Kept (t : Task) : Type 0 where
+  scan : t .«scan_type» < length table
+  line : Says (t .«scan_type») (lineOf (t .«scan_type»))
+  most : t .«cut_number» ≤ mostIn (lineOf (t .«scan_type»))
+
+kept : (t : Task) → TaskOk t → Kept t
+unfolding table
+kept t ok =
+    let scan : t .«scan_type» < length table = let h = most w32 0 6 (t .«scan_type») (lit< tt) (ok .1 .1 .0) in omega arith in
+    let line = line-says (t .«scan_type») scan in
+    record { scan = scan; line = line; most = line .cuts (t .«cut_number») .0 (ok .1 .1 .1 .1 .0) .1 }
+
+layered : (t : Task) (cs : List Cut) (ls : List (List VolumeRadial)) → Kept t → length ls ≤ t .«cut_number» → LayersOk t 1 0 cs ls → Layered t ls
+layered t cs ls k some ok =
+    record { scan = k .scan; most = k .most; order = layers-in-order t (lineOf (t .«scan_type»)) (k .line) (k .most) 1 0 cs ls (omega arith) (omega arith) ok }
+
 as-many : (t : Task) (k before : ℕ) (cs : List Cut) (ls : List (List VolumeRadial)) → LayersOk t k before cs ls → length ls ≡ length cs
 as-many t k before [] [] ok = refl
 as-many t k before [] (l ∷ ls) ok = absurd ok
 as-many t k before (c ∷ cs) [] ok = absurd ok
 as-many t k before (c ∷ cs) (l ∷ ls) ok = let e = as-many t (suc k) (before + length l) cs ls (ok .1) in omega arith
 
-layered : (v : Volume) → IsVolume v → Layered v
-unfolding table
-layered v is =
-    let t = v .task in
-    let rules = is .headed .task .1 in
-    let scan : t .«scan_type» < length table = let h = most w32 0 6 (t .«scan_type») (lit< tt) (rules .1 .0) in omega arith in
-    let line = line-says (t .«scan_type») scan in
-    let cuts = line .cuts (t .«cut_number») .0 (rules .1 .1 .1 .0) in
-    let number : length (v .layers) ≡ t .«cut_number» = as-many t 1 0 (v .cuts) (v .layers) (is .layers) ∙ is .headed .number in
-    record {
-      scan = scan;
-      number = number;
-      most = cuts .1;
-      order = layers-in-order t (lineOf (t .«scan_type»)) line (cuts .1) 1 0 (v .cuts) (v .layers) (omega arith) (omega arith) (is .layers);
-    }
+volumes : (v : Volume) → IsVolume v → Layered (v .task) (v .layers) × (length (v .layers) ≡ v .task .«cut_number»)
+volumes v is =
+    let number : length (v .layers) ≡ v .task .«cut_number» = as-many (v .task) 1 0 (v .cuts) (v .layers) (is .layers) ∙ is .headed .number in
+    (layered (v .task) (v .cuts) (v .layers) (kept (v .task) (is .headed .task)) (omega arith) (is .layers), number)
+
+begun : (b : Begun) → BegunOk b
+    → Layered (b .task) (b .closed) × Unclosed (statesIn (lineOf (b .task .«scan_type»)) (b .task .«cut_number») (suc (length (b .closed)))) (b .now)
+begun b is =
+    let t = b .task in
+    let k = kept t (is .headed .task) in
+    let early = as-many t 1 0 (b .early) (b .closed) (is .closed) in
+    let cuts : length (b .early) + suc (length (b .later)) ≡ t .«cut_number» = sym (length-append (b .early) (b .cut ∷ b .later)) ∙ is .headed .number in (
+      layered t (b .early) (b .closed) k (omega arith) (is .closed),
+      unclosed t (lineOf (t .«scan_type»)) (k .line) (k .most) (b .cut) (suc (length (b .closed))) _ (b .now)
+          (record { from-one = omega arith; to-last = omega arith; allowed = k .most }) (is .now),
+    )
 
 pub state-rule : StateRule
-state-rule = record { lines = each-line 0 table (one (from 0 0)) (λ i h. let same : 0 + i ≡ i = omega arith in rw same (line-says i h)); volumes = layered }
+state-rule = record { lines = each-line 0 table (one (from 0 0)) (λ i h. let same : 0 + i ≡ i = omega arith in rw same (line-says i h)); volumes = volumes; begun = begun }

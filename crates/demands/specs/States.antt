@@ -1,6 +1,6 @@
 -- Which states the radials of a volume may have, and how many cuts its task: document 01, "States" and number 8, as document 02,
 -- #103, changes them, as one table. It has the numbers themselves, a line for each scan type, and what the definitions say is
--- held against it: of each scan type, cut and count, and of every volume.
+-- held against it: of each scan type, cut and count, of every volume, and of what is accepted of any file.
 use Prim.Native.Nat.{ℕ, suc, _≤_, _<_}
 use mathlib.Core.Bool.{true, cond}
 use mathlib.Core.List.{List, [], _∷_}
@@ -9,6 +9,8 @@ use mathlib.Core.Path.{_≡_}
 use lib.Dec.{eqb, ltb}
 use lib.ListN.{length, getD}
 use Rattle.rules.specs.States.{cutNumberOk, closing, stateOk}
+use Rattle.task.specs.declared.Task.{Task}
+use Rattle.volume.specs.Accepted.{Begun, BegunOk}
 use Rattle.volume.specs.Volume.{VolumeRadial, Volume, IsVolume}
 
 -- the state of a cut's first radial, and the state that closes the cut; any radial between the two has 1
@@ -80,23 +82,35 @@ abbrev pub InOrder : States → List VolumeRadial → Type 0
 InOrder s [] = ⊥
 InOrder s (b ∷ bs) = (b .header .state ≡ s .opens) × ToTheLast (s .closes) bs
 
--- the layers of a volume of n cuts, from cut k on
+-- the layers of a task of n cuts, from cut k on
 abbrev pub LayersInOrder : Line → ℕ → ℕ → List (List VolumeRadial) → Type 0
 LayersInOrder l n k [] = Unit {0}
 LayersInOrder l n k (bs ∷ ls) = InOrder (statesIn l n k) bs × LayersInOrder l n (suc k) ls
+
+-- the radials of a layer that is not closed yet
+abbrev pub Ones : List VolumeRadial → Type 0
+Ones [] = Unit {0}
+Ones (b ∷ bs) = (b .header .state ≡ 1) × Ones bs
+
+abbrev pub Unclosed : States → List VolumeRadial → Type 0
+Unclosed s [] = Unit {0}
+Unclosed s (b ∷ bs) = (b .header .state ≡ s .opens) × Ones bs
 
 -- the line of a scan type that the table has
 abbrev pub lineOf : ℕ → Line
 lineOf scan = getD table scan (one (from 0 0))
 
--- a volume's scan type is in the table; the volume has as many layers as its task says, no more than the line allows, and each
--- with its radials in the order of its states
-pub record Layered (v : Volume) : Type 0 where
-  pub scan : v .task .«scan_type» < length table
-  pub number : length (v .layers) ≡ v .task .«cut_number»
-  pub most : v .task .«cut_number» ≤ mostIn (lineOf (v .task .«scan_type»))
-  pub order : LayersInOrder (lineOf (v .task .«scan_type»)) (v .task .«cut_number») 1 (v .layers)
+-- a task's scan type is in the table, it has no more cuts than the line allows, and of each of these layers, from the first on,
+-- the radials are in the order of its states
+pub record Layered (t : Task) (layers : List (List VolumeRadial)) : Type 0 where
+  pub scan : t .«scan_type» < length table
+  pub most : t .«cut_number» ≤ mostIn (lineOf (t .«scan_type»))
+  pub order : LayersInOrder (lineOf (t .«scan_type»)) (t .«cut_number») 1 layers
 
 pub record StateRule : Type 0 where
   pub lines : Lines 0 table
-  pub volumes : (v : Volume) → IsVolume v → Layered v
+  -- a volume has as many layers as its task says, in their order
+  pub volumes : (v : Volume) → IsVolume v → Layered (v .task) (v .layers) × (length (v .layers) ≡ v .task .«cut_number»)
+  -- of a file that is open or refused, the closed layers are in their order, and so is the one behind them (`volume/Accepted`)
+  pub begun : (b : Begun) → BegunOk b
+      → Layered (b .task) (b .closed) × Unclosed (statesIn (lineOf (b .task .«scan_type»)) (b .task .«cut_number») (suc (length (b .closed)))) (b .now)
