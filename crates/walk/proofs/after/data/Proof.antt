@@ -13,13 +13,15 @@ returns-2 : tie.Need-returns-2
 unfolding afterData dueIf
 returns-2 c =
     let k = c .before .before .before .before .before in
-    rw (le-ltb _ _ (k .before .if1 .left), ← k .closes-cut .ensures, c .before .before .before .before .if2 .taken, lt-ltb _ _ (c .before .if3 .taken))
+    let w = k .before .before .before .before .before .before .before .args .w in
+    rw (le-ltb _ _ (k .before .if1 .left), ← k .closes-cut .ensures, c .before .before .before .before .if2 .taken, lt-ltb (w .count .cut) (w .plan .cuts) (c .before .if3 .taken))
 
 returns-3 : tie.Need-returns-3
 unfolding afterData dueIf
 returns-3 c =
     let k = c .before .before .before .before in
-    rw (le-ltb _ _ (k .before .if1 .left), ← k .closes-cut .ensures, c .before .before .before .if2 .taken, le-ltb _ _ (c .if3 .left))
+    let w = k .before .before .before .before .before .before .before .args .w in
+    rw (le-ltb _ _ (k .before .if1 .left), ← k .closes-cut .ensures, c .before .before .before .if2 .taken, le-ltb (w .count .cut) (w .plan .cuts) (c .if3 .left))
 
 returns-4 : tie.Need-returns-4
 unfolding afterData dueIf
