@@ -47,7 +47,7 @@ its-sequence f n s e = ap (λ (r : RadialAnswer). r .header .sequence) (ap (radi
 its-type : (f : List ℕ) (n t : ℕ) (s : Stretch) (p : ℕ) → whereIs f n t ≡ At s p → momentAt (bytesOf f s) p .«data_type» ≡ t
 its-type f n t s p e = find-type (bytesOf f s) t p (momentsOf (bytesOf f s)) (stands f n t s p e .moment)
 
-answered-one : {x y : Values} → answered x ≡ answered y → x ≡ y
+pub answered-one : {x y : Values} → answered x ≡ answered y → x ≡ y
 answered-one e = cc
 
 -- a gate answered as a value or as a class has the type that goes with it

@@ -1,5 +1,6 @@
 pub mod Asked
 pub mod Counted
+pub mod Divided
 pub mod Growing
 pub mod Grown
 pub mod Shown

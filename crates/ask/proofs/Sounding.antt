@@ -73,7 +73,7 @@ header-sound b p d e r =
       coding = λ i. record { «data_type» = h .«data_type»; scale = mod-eq-of-lt ls i; offset = mod-eq-of-lt lo i };
       bytes = bytes;
       gates = codes-gates (h .«bin_length») (dataAt b p) bin ∙ ap (λ (n : ℕ). gatesIn n (h .«bin_length»)) bytes;
-      float = λ code l. lossless (codingOf h) code l (omega arith) (omega arith);
+      float = λ code l. lossless (codingOf h) code l (omega arith) (omega arith) (omega arith);
     }
 
 -- ---- a radial's own stretch and the file

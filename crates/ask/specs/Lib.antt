@@ -5,4 +5,5 @@ pub mod Growth
 pub mod Sound
 pub mod Asked
 pub mod Counted
+pub mod Divided
 pub mod Shown

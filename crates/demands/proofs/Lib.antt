@@ -1,3 +1,4 @@
+pub mod Floats
 pub mod One
 pub mod States
 pub mod Two

@@ -46,6 +46,7 @@ use Rattle.index.specs.Answer.{rightFor}
 use Rattle.index.specs.Index.{indexOf}
 use Rattle.writer.specs.Block.{Block}
 use Rattle.writer.specs.Trips.{Fits, TakenWhen, Keeps, CopyOf, SameBlock, Run, SameBlocks, SamePlace, ReadBack}
+use Rattle.demands.specs.Floats.{Floats}
 use Rattle.demands.specs.States.{StateRule}
 
 -- What a volume is, `volume/Volume` says by the place of each block in the structure, with no word of how a file is read.
@@ -78,9 +79,9 @@ pub record WholeRadials : Type 0 where
 
 -- every type is a measurement but 14 (HCL) and 15 (CF). The five special codes stay five for every type, with nothing but
 -- their kind. Where the type is a measurement, any other code is a value, of kind 5: exactly (code less offset) over scale, whose
--- float is one quotient of two floats that are exactly these two whole numbers, for every code, offset and scale of 16 bits.
--- Where it is none, any other code is a class, of kind 6, that carries the raw code, with zeros beside it as beside a special
--- code. There are no other values and no other classes
+-- float is one quotient of two floats that are exactly these two whole numbers, for every code, offset and scale of 16 bits, a
+-- scale of 0 aside (`Floats`). Where it is none, any other code is a class, of kind 6, that carries the raw code, with zeros
+-- beside it as beside a special code. There are no other values and no other classes
 pub record Codes : Type 0 where
   pub types : (t : ℕ) → (isMeasurement t ≡ false → (t ≡ 14) ⊎ (t ≡ 15)) × ((t ≡ 14) ⊎ (t ≡ 15) → isMeasurement t ≡ false)
   pub names : (c : Coding) → map (gateOf c) (0 ∷ 1 ∷ 2 ∷ 3 ∷ 4 ∷ []) ≡ BelowThreshold ∷ RangeFolded ∷ NotScanned ∷ Unknown ∷ Reserved ∷ []
@@ -93,7 +94,7 @@ pub record Codes : Type 0 where
       → (kindOf c code ≡ 5 → (isMeasurement (c .«data_type») ≡ true) × (5 ≤ code)) × (isMeasurement (c .«data_type») ≡ true → 5 ≤ code → kindOf c code ≡ 5)
   pub class-kind : (c : Coding) (code : ℕ)
       → (kindOf c code ≡ 6 → (isMeasurement (c .«data_type») ≡ false) × (5 ≤ code)) × (isMeasurement (c .«data_type») ≡ false → 5 ≤ code → kindOf c code ≡ 6)
-  pub float : (c : Coding) (code : ℕ) → code < 65536 → c .offset < 65536 → c .scale < 65536 → Lossless c code
+  pub float : (c : Coding) (code : ℕ) → code < 65536 → c .offset < 65536 → 1 ≤ c .scale → c .scale < 65536 → Lossless (differenceOf c code) (c .scale) (floatOf c code)
   pub hundredths : (c : Coding) (code : ℕ) → 0 < c .scale → Nearest (differenceOf c code) (c .scale) (hundredthsOf c code)
 
 -- a row shows of each gate the kind and the hundredths that the gate question answers, and it shows them all
@@ -143,6 +144,8 @@ pub record DemandTwo : Type 0 where
   pub exactly : RefusedExactly
   -- which states are allowed where, as a table (`States`)
   pub states : StateRule
+  -- the angles' tests on the bits, and the one float operation (`Floats`)
+  pub floats : Floats
   pub radials : WholeRadials
   pub codes : Codes
   pub rows : Rows

@@ -1,16 +1,17 @@
--- Laws of specs/Gates: which types are measurements, what a code of 5 or more says, what is told beside a gate, and the
--- hundredths on either side of the offset. Assumes nothing.
+-- Laws of specs/Gates: which types are measurements, what a code of 5 or more says, what is told beside a gate, the
+-- hundredths on either side of the offset, and what a scale of 0 gives. Assumes nothing.
 use mathlib.Core.Bool.{Bool, true, false, cond, not, _||_, true≢false}
 use mathlib.Core.Logic.{_⊎_, inl, inr, dite}
 use mathlib.Core.Path.{_≡_, refl, sym, ap, _∙_}
 use mathlib.Core.List.{[], _∷_}
 use Prim.Native.Nat.{ℕ, zero, suc, _+_, _-_, _*_, _≤_, _<_}
 use native.Mathlib.Decide.{decLt}
-use native.Mathlib.Nat.{div-le-self}
+use native.Mathlib.Nat.{div-le-self, div-zero}
 use native.Mathlib.Omega.{arith}
 use borrow.Author.Tests.{eq-eqb, ne-eqb, eqb-true}
 use lib.Dec.{eqb}
-use lib.IntN.{ℤ, pos, negℤ}
+use lib.IntN.{ℤ, pos, negsuc, negℤ}
+use lib.Ieee.{fin}
 use lib.ListN.{List·getD-eq-default}
 use Rattle.gates.specs.declared.Coding.{Coding}
 use Rattle.gates.specs.declared.Gate.{Gate}
@@ -132,3 +133,13 @@ module _ (c : Coding) (code : ℕ) where
   hundredths-lt h =
       let e : suc (c .offset - suc code) ≡ c .offset - code = omega arith in
       ap (λ (z : ℤ). roundedOf z (c .scale)) (diff-lt code (c .offset) h) ∙ ap (λ (n : ℕ). negℤ (pos (magnitudeOf n (c .scale)))) e
+
+-- over a scale of 0 both are 0
+rounded-zero : (z : ℤ) → roundedOf z 0 ≡ pos 0
+unfolding roundedOf magnitudeOf
+rounded-zero (pos n) = rw div-zero
+rounded-zero (negsuc n) = rw div-zero
+
+pub by-zero : (c : Coding) (code : ℕ) → c .scale ≡ 0 → (floatOf c code ≡ fin false 0 (pos 0)) × (hundredthsOf c code ≡ pos 0)
+unfolding floatOf
+by-zero c code e = (rw (eq-eqb (c .scale) 0 e), rw e (rounded-zero (differenceOf c code)))

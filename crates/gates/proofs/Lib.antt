@@ -7,3 +7,4 @@ pub mod Codes
 pub mod Rows
 pub mod Counting
 pub mod Numbers
+pub mod Quotients

@@ -1,11 +1,10 @@
--- What it is to carry a whole number over into a float without loss (document 01, "What reading tells").
-use mathlib.Core.Bool.{cond}
+-- What it is to carry a whole number over into a float without loss, and to divide by it (document 01, "What reading tells";
+-- document 02, #105).
+use mathlib.Core.Bool.{false, cond}
 use mathlib.Core.Path.{_≡_}
-use Prim.Native.Nat.{ℕ, _*_}
+use Prim.Native.Nat.{ℕ, _*_, _≤_, _<_}
 use lib.IntN.{ℤ, pos, negℤ, natAbs}
 use lib.Ieee.{Float, nan, inf, fin, binary64, up, down, div}
-use Rattle.gates.specs.declared.Coding.{Coding}
-use Rattle.gates.specs.Gates.{differenceOf, floatOf}
 
 -- a float is exactly a whole number: plus or minus m * 2 ^ e is that number, 2 ^ e being up e / down e
 abbrev pub Exactly : Float → ℤ → Type 0
@@ -13,10 +12,21 @@ Exactly nan z = ⊥
 Exactly (inf s) z = ⊥
 Exactly (fin s m e) z = (m * up e ≡ natAbs z * down e) × (z ≡ cond s (negℤ (pos (natAbs z))) (pos (natAbs z)))
 
--- the float of a value is the double-precision quotient of two floats that are exactly the code less the offset and the scale
-pub record Lossless (c : Coding) (code : ℕ) : Type 0 where
+-- a float is in size at least 1 / 65,536 and below 65,536: finite, and far from where a double overflows or underflows
+abbrev pub Middling : Float → Type 0
+Middling nan = ⊥
+Middling (inf s) = ⊥
+Middling (fin s m e) = (down e ≤ m * up e * 65536) × (m * up e < 65536 * down e)
+
+-- a float is the double-precision quotient of two floats that are exactly two whole numbers. The division flags nothing but that it
+-- is inexact: it is not invalid, since both are finite and the lower one is not 0, which it would have to be for a division by
+-- zero; and it neither overflows nor underflows, since the quotient is 0 or middling
+pub record Lossless (difference : ℤ) (scale : ℕ) (x : Float) : Type 0 where
   pub upper : Float
   pub lower : Float
-  pub difference : Exactly upper (differenceOf c code)
-  pub scale : Exactly lower (pos (c .scale))
-  pub quotient : floatOf c code ≡ div binary64 upper lower
+  pub upper-is : Exactly upper difference
+  pub lower-is : Exactly lower (pos scale)
+  pub divides : 1 ≤ scale
+  pub quotient : x ≡ div binary64 upper lower
+  pub at-zero : difference ≡ pos 0 → x ≡ fin false 0 (pos 0)
+  pub size : (difference ≡ pos 0 → ⊥) → Middling x

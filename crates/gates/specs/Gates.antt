@@ -1,12 +1,12 @@
 -- What a gate's code says (document 01, "What reading tells"; document 02, #101). Each definition has the whole coding, the
 -- type with it.
 use Prim.Native.Nat.{ℕ, suc, _+_, _*_, _/_}
-use mathlib.Core.Bool.{Bool, cond, not, _||_}
+use mathlib.Core.Bool.{Bool, false, cond, not, _||_}
 use mathlib.Core.List.{[], _∷_}
 use lib.Dec.{eqb}
 use lib.ListN.{getD}
 use lib.IntN.{ℤ, pos, negsuc, negℤ, _-ℤ_}
-use lib.Ieee.{Float, binary64, div, ofInt}
+use lib.Ieee.{Float, fin, binary64, div, ofInt}
 use Rattle.gates.specs.declared.Coding.{Coding}
 use Rattle.gates.specs.declared.Gate.{Gate}
 use Rattle.gates.specs.declared.Gate.the-variants.{BelowThreshold, RangeFolded, NotScanned, Unknown, Reserved, Value, Class}
@@ -20,9 +20,10 @@ isMeasurement t = not (eqb t 14 || eqb t 15)
 abbrev pub differenceOf : Coding → ℕ → ℤ
 differenceOf c code = pos code -ℤ pos (c .offset)
 
--- one division in double precision, of the difference by the scale; by 0, as no accepted header has it, what IEEE 754 says
+-- one division in double precision, of the difference by the scale. By 0, as no accepted header has it, nothing is divided,
+-- since that would be an invalid operation (document 02, #105): it is plus zero, as the hundredths are 0
 unfoldable pub floatOf : Coding → ℕ → Float
-floatOf c code = div binary64 (ofInt binary64 (differenceOf c code)) (ofInt binary64 (pos (c .scale)))
+floatOf c code = cond (eqb (c .scale) 0) (fin false 0 (pos 0)) (div binary64 (ofInt binary64 (differenceOf c code)) (ofInt binary64 (pos (c .scale))))
 
 -- a code that is not special: a value with its float where the type is a measurement, a class with the raw code where not
 unfoldable pub otherOf : Coding → ℕ → Gate

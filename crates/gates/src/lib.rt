@@ -55,9 +55,13 @@ fn difference(c: Coding, code: u16) -> i32
     (code as i32) - (c.offset as i32)
 }
 
+// The one float operation of the library, and none where scale is 0: that would be an invalid one where the difference is 0 too.
 fn quotient(c: Coding, code: u16) -> f64
     ensures { λ r. ⌜ r ≡ floatOf c code ⌝ }
 {
+    if c.scale == 0 {
+        return 0.0;
+    }
     (difference(c, code) as f64) / (c.scale as f64)
 }
 

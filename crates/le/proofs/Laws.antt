@@ -1,10 +1,12 @@
 -- Laws of little-endian numbers, of a part of a list, and of a list with a part replaced, over the width. Assumes nothing.
 use mathlib.Core.Path.{_≡_, refl, sym, ap, _∙_}
 use mathlib.Core.Bool.{true, false}
+use mathlib.Core.Logic.{dite}
 use mathlib.Core.List.{List, [], _∷_, _++_, append-assoc, append-nil}
 use Prim.Native.Nat.{ℕ, zero, suc, _+_, _*_, _-_, _/_, _%_, _^_, _≤_, _<_}
 use native.Mathlib.Nat.{mul-zero, mul-suc, mul-le-mul-left, not-suc-le-zero, le-of-suc-le-suc, add-zero, zero-add, suc-add, pow-suc, pow-succ', one-le-pow, div-one, div-div-eq-div-mul}
 use native.Mathlib.Numerals.{add-one}
+use native.Mathlib.Decide.{decLt}
 use native.Mathlib.Omega.{arith}
 use lib.Dec.{lit<, leb}
 use lib.Arith.{mod-mul}
@@ -178,6 +180,13 @@ part-bytes n f at bs = record { byte = go n at }
     go zero at i = lit< tt
     go (suc n) at zero = bs .byte at
     go (suc n) at (suc i) = go n (at + 1) i
+
+-- and each byte of the middle of a list
+pub middle-bytes : (n m : ℕ) (f : List ℕ) → Bytes f → Bytes (take n (drop m f))
+middle-bytes n m f bs = record {
+  byte = λ i. dite (decLt i n) (λ h. rw (getD-take n (drop m f) i 0 h, getD-drop m f i 0) (bs .byte (m + i)))
+      (λ h. let e : length (take n (drop m f)) ≤ i = simp length-take (omega arith) in rw (List·getD-eq-default (take n (drop m f)) 0 e) (lit< tt));
+}
 
 -- a part that begins with a part
 pub join : (f : List ℕ) {x y : List ℕ} (m n : ℕ) → x ≡ part m f 0 → y ≡ part n f m → x ++ y ≡ part (m + n) f 0

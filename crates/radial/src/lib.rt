@@ -3,9 +3,10 @@ ghost use mathlib.Core.Path.{_≡_};
 ghost use Prim.Native.Nat.{_+_, _≤_};
 ghost use lib.ListN.{length};
 ghost use Rattle.le.specs.Le.{stored, patch, int};
-ghost use Rattle.rules.specs.Ranges.{among, is, counts, countsInCut, angle};
-ghost use lib.IntN.{pos, negsuc};
+ghost use Rattle.rules.specs.Ranges.{among, is, counts, countsInCut};
+ghost use lib.IntN.{pos};
 ghost use Rattle.radial.specs.Radial.{radialOf, radialAt, radialBytes, radialSize, radialCheck};
+use rules::angles;
 use rules::check::Check;
 use rules::check::also;
 use rules::ranges;
@@ -159,8 +160,13 @@ impl Radial {
             14,
             Self::ELEVATION_NUMBER as u8,
         );
-        let v = also(v, azimuth_ok(self.azimuth), 15, Self::AZIMUTH as u8);
-        let v = also(v, elevation_ok(self.elevation), 16, Self::ELEVATION as u8);
+        let v = also(v, angles::azimuth_ok(self.azimuth), 15, Self::AZIMUTH as u8);
+        let v = also(
+            v,
+            angles::elevation_ok(self.elevation),
+            16,
+            Self::ELEVATION as u8,
+        );
         let v = also(
             v,
             ranges::not_below_zero(self.seconds),
@@ -225,27 +231,6 @@ fn elevation_number_ok(cut: u32, x: u32) -> bool
 {
     match x {
         0..=0x7fff_ffff => x == cut,
-        _ => false,
-    }
-}
-
-// Number 15 (table 3-1): 0..360, minus zero among them, decided on the bits with no float operation: clear sign, then set
-// sign, each up to the bits of its end.
-fn azimuth_ok(bits: u32) -> bool
-    ensures { λ r. ⌜ r ≡ angle (pos 0) (pos 360) bits ⌝ }
-{
-    match bits {
-        0..=0x43B4_0000 | 0x8000_0000..=0x8000_0000 => true,
-        _ => false,
-    }
-}
-
-// Number 16 (table 3-1): -2..90, likewise.
-fn elevation_ok(bits: u32) -> bool
-    ensures { λ r. ⌜ r ≡ angle (negsuc 1) (pos 90) bits ⌝ }
-{
-    match bits {
-        0..=0x42B4_0000 | 0x8000_0000..=0xC000_0000 => true,
         _ => false,
     }
 }

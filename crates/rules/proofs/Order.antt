@@ -1,6 +1,6 @@
 -- The order of f32 values by their patterns: a finite pattern's magnitude goes up with the pattern, so a range of values is two ranges of patterns. Assumes nothing.
 use mathlib.Core.Path.{_≡_, refl, sym, ap, _∙_, subst}
-use mathlib.Core.Bool.{Bool, true, false, _&&_, _||_, cond}
+use mathlib.Core.Bool.{Bool, true, false, _&&_, _||_, cond, or-true}
 use mathlib.Core.Logic.{dite}
 use Prim.Native.Nat.{ℕ, suc, _+_, _-_, _*_, _/_, _%_, _^_, _≤_, _<_}
 use native.Mathlib.Nat.{mul-pos, mul-one, mul-assoc, mul-comm, mul-right-comm, zero-mul, add-mul, mul-lt-mul-of-pos-right, le-of-mul-le-mul-right, lt-of-mul-lt-mul-right, mul-le-mul-right, mul-le-mul-left, le-trans, lt-of-lt-of-le, mod-eq-of-lt, pow-succ'}
@@ -12,7 +12,7 @@ use lib.Ieee.{Float, nan, inf, fin, binary32, up, down, odd, below, level, lt, e
 use lib.Ieee.Exact.{HasValue, odd-sign}
 use lib.Ieee.Fits.{down-pos}
 use borrow.Author.Tests.{lt-ltb, le-ltb, le-leb, lt-leb, eq-eqb, ne-eqb}
-use Rattle.rules.specs.Ranges.{between}
+use Rattle.rules.specs.Ranges.{between, within, onBits}
 
 -- ---- tests on numbers
 le-or : (u v : ℕ) → (ltb u v || (eqb u v && true)) ≡ leb u v
@@ -163,10 +163,7 @@ beyond lo hi r t a b c s m p q h k = let e : m / 8388608 ≡ 255 = omega arith i
     go (fin u n d) (fin v n' d') true true p q = refl
     go (fin u n d) (fin v n' d') false true p q = refl
 
--- ---- a range, on the patterns: at most `high` where the sign is clear, and at most `low` above the sign where it is set
-abbrev pub inBits : ℕ → ℕ → ℕ → Bool
-inBits low high b = leb b high || (leb 2147483648 b && leb b (2147483648 + low))
-
+-- ---- a range, on the patterns; `low` and `high` are those of its ends without their signs
 module _ (lo hi : Float) (s : Bool) (low high : ℕ) (L : low < 2139095040) (U : high < 2139095040)
     (is-lo : HasValue lo s (mag low) (2 ^ 149)) (w : Low s (mag low)) (is-hi : HasValue hi false (mag high) (2 ^ 149)) where
   D : 0 < 2 ^ 149
@@ -204,7 +201,8 @@ module _ (lo hi : Float) (s : Bool) (low high : ℕ) (L : low < 2139095040) (U :
       and-true true = refl
       and-true false = refl
 
-  pub by-bits : (b : ℕ) → b < 2 ^ 32 → between lo hi (ofBits binary32 b) ≡ inBits low high b
+  pub by-bits : (b : ℕ) → b < 2 ^ 32 → between lo hi (ofBits binary32 b) ≡ onBits high (2147483648 + low) b
+  unfolding onBits within
   by-bits b h =
       dite (decLt b 2147483648)
       (λ k. rw (ofBits-is b b false (lt-leb 2147483648 b k) (mod-eq-of-lt k), clear b k, lt-leb 2147483648 b k) (or-false (leb b high)))
@@ -221,18 +219,17 @@ module _ (lo hi : Float) (s : Bool) (low high : ℕ) (L : low < 2139095040) (U :
           (λ h. le-leb m low (omega arith) ∙ sym (le-leb b (2147483648 + low) (omega arith)))
 
 -- ---- what the tests on a pattern show
-module _ (low high b : ℕ) where
-  pub in-low : b ≤ high → true ≡ inBits low high b
-  in-low h = rw (le-leb b high h)
+module _ (upper lower b : ℕ) where
+  pub in-low : b ≤ upper → true ≡ onBits upper lower b
+  unfolding onBits
+  in-low h = rw (le-leb b upper h)
 
-  pub in-high : 2147483648 ≤ b → b ≤ 2147483648 + low → true ≡ inBits low high b
-  in-high h k = rw (le-leb 2147483648 b h, le-leb b (2147483648 + low) k) (go (leb b high))
-    where
-      go : (x : Bool) → true ≡ (x || true)
-      go true = refl
-      go false = refl
+  pub in-high : 2147483648 ≤ b → b ≤ lower → true ≡ onBits upper lower b
+  unfolding onBits within
+  in-high h k = rw (le-leb 2147483648 b h, le-leb b lower k) (sym (or-true (leb b upper)))
 
-  pub out : high < b → (2147483648 ≤ b → b ≤ 2147483648 + low → ⊥) → false ≡ inBits low high b
+  pub out : upper < b → (2147483648 ≤ b → b ≤ lower → ⊥) → false ≡ onBits upper lower b
+  unfolding onBits within
   out h k =
-      dite (decLt b 2147483648) (λ l. rw (lt-leb b high h, lt-leb 2147483648 b l))
-      (λ l. dite (decLt (2147483648 + low) b) (λ m. rw (lt-leb b high h, le-leb 2147483648 b (omega arith), lt-leb b (2147483648 + low) m)) (λ m. absurd (k (omega arith) (omega arith))))
+      dite (decLt b 2147483648) (λ l. rw (lt-leb b upper h, lt-leb 2147483648 b l))
+      (λ l. dite (decLt lower b) (λ m. rw (lt-leb b upper h, le-leb 2147483648 b (omega arith), lt-leb b lower m)) (λ m. absurd (k (omega arith) (omega arith))))

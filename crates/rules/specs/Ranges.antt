@@ -1,5 +1,5 @@
 -- When a field is in its range (document 01, "Field rules and refusal numbers").
-use mathlib.Core.Bool.{Bool, _&&_}
+use mathlib.Core.Bool.{Bool, _&&_, _||_}
 use Prim.Native.Nat.{ℕ, _+_}
 use lib.Dec.{leb}
 use lib.Ieee.{Float, binary32, ofBits, ofInt, le}
@@ -34,10 +34,29 @@ mostRadials = 1000
 unfoldable pub countsInCut : ℕ → ℕ → Bool
 countsInCut before n = counts before n && leb (before + 1) mostRadials
 
--- numbers 3, 4, 15 and 16: the IEEE single with these bits lies between two whole numbers. A NaN lies in no range, and
--- minus zero is zero.
+-- numbers 3, 4, 15 and 16, by the value: the IEEE single with these bits lies between two whole numbers. A NaN lies in no
+-- range, and minus zero is zero.
 unfoldable pub between : Float → Float → Float → Bool
 between lo hi x = le lo x && le x hi
 
 unfoldable pub angle : ℤ → ℤ → ℕ → Bool
 angle lo hi bits = between (ofInt binary32 lo) (ofInt binary32 hi) (ofBits binary32 bits)
+
+-- the same four on the bits alone (document 02, #105). Up to the infinities a single's size goes up with its bits, as whole
+-- numbers; so a range that holds zero is two runs of bits: with the sign clear from plus zero to the bits of its upper end, with
+-- the sign set from minus zero to those of its lower end. An infinity and a NaN lie past every end.
+unfoldable pub onBits : ℕ → ℕ → ℕ → Bool
+onBits upper lower bits = leb bits upper || within 0x8000_0000 lower bits
+
+-- -90..90, -180..180, 0..360 (of the lower run minus zero alone) and -2..90
+abbrev pub latitudeBits : ℕ → Bool
+latitudeBits bits = onBits 0x42B4_0000 0xC2B4_0000 bits
+
+abbrev pub longitudeBits : ℕ → Bool
+longitudeBits bits = onBits 0x4334_0000 0xC334_0000 bits
+
+abbrev pub azimuthBits : ℕ → Bool
+azimuthBits bits = onBits 0x43B4_0000 0x8000_0000 bits
+
+abbrev pub elevationBits : ℕ → Bool
+elevationBits bits = onBits 0x42B4_0000 0xC000_0000 bits

@@ -3,9 +3,8 @@ ghost use mathlib.Core.Path.{_≡_};
 ghost use Prim.Native.Nat.{_+_, _≤_};
 ghost use lib.ListN.{length};
 ghost use Rattle.le.specs.Le.{stored, patch};
-ghost use Rattle.rules.specs.Ranges.{angle};
-ghost use lib.IntN.{pos, negsuc};
 ghost use Rattle.site.specs.Site.{siteOf, siteAt, siteBytes, siteSize, siteCheck};
+use rules::angles;
 use rules::check::Check;
 use rules::check::also;
 
@@ -125,11 +124,16 @@ impl Site {
     {
         let v = also(
             Check::Fine,
-            latitude_ok(self.latitude),
+            angles::latitude_ok(self.latitude),
             3,
             Self::LATITUDE as u8,
         );
-        let v = also(v, longitude_ok(self.longitude), 4, Self::LONGITUDE as u8);
+        let v = also(
+            v,
+            angles::longitude_ok(self.longitude),
+            4,
+            Self::LONGITUDE as u8,
+        );
         v
     }
 }
@@ -139,25 +143,4 @@ fn put_reserved(room: &mut [u8], at: usize, x: &[u8; 54])
     ensures { λ _. ⌜ (now (room .exit) ≡ stored (length (now (x .entry))) (now (room .entry)) at (now (x .entry))) × (length (now (x .entry)) ≡ 54) ⌝ }
 {
     le::put(room, at, x);
-}
-
-// Number 3 (table 2-3): -90..90, decided on the bits with no float operation: clear sign, then set sign, each up to the
-// bits of its end.
-fn latitude_ok(bits: u32) -> bool
-    ensures { λ r. ⌜ r ≡ angle (negsuc 89) (pos 90) bits ⌝ }
-{
-    match bits {
-        0..=0x42B4_0000 | 0x8000_0000..=0xC2B4_0000 => true,
-        _ => false,
-    }
-}
-
-// Number 4 (table 2-3): -180..180, likewise.
-fn longitude_ok(bits: u32) -> bool
-    ensures { λ r. ⌜ r ≡ angle (negsuc 179) (pos 180) bits ⌝ }
-{
-    match bits {
-        0..=0x4334_0000 | 0x8000_0000..=0xC334_0000 => true,
-        _ => false,
-    }
 }

@@ -1,11 +1,13 @@
+use native.Mathlib.Omega.{arith}
 use borrow.Author.Needs.{needs}
+use Rattle.rules.proofs.Four.{azimuth, elevation}
 use Rattle.radial.specs.Radial.{radialCheck}
 use Rattle.radial.proofs.Radial.check.Statement.{statement}
 use Rattle.radial.proofs.Radial.check.Tie as tie
 
 returns : tie.Need-returns
 unfolding radialCheck
-returns c = rw (
+returns c = let start = c .before .before .before .before .before .before .before .before .before .before .before .before .before .before .before .before .before .before .before .before .before .before in rw (
   c .also11 .ensures,
   c .before .moment-number-ok .ensures,
   c .before .before .also10 .ensures,
@@ -28,6 +30,8 @@ returns c = rw (
   c .before .before .before .before .before .before .before .before .before .before .before .before .before .before .before .before .before .before .before .spot-blank-ok .ensures,
   c .before .before .before .before .before .before .before .before .before .before .before .before .before .before .before .before .before .before .before .before .also .ensures,
   c .before .before .before .before .before .before .before .before .before .before .before .before .before .before .before .before .before .before .before .before .before .state-ok .ensures,
+  azimuth (start .args .self .azimuth) (omega (arith, start)),
+  elevation (start .args .self .elevation) (omega (arith, start)),
 )
 
 pub check-spec : {M : Type 1} → statement M

@@ -1,4 +1,6 @@
+use native.Mathlib.Omega.{arith}
 use borrow.Author.Needs.{needs}
+use Rattle.rules.proofs.Four.{latitude, longitude}
 use Rattle.site.specs.Site.{siteCheck}
 use Rattle.site.proofs.Site.check.Statement.{statement}
 use Rattle.site.proofs.Site.check.Tie as tie
@@ -10,6 +12,8 @@ returns c = rw (
   c .before .longitude-ok .ensures,
   c .before .before .also .ensures,
   c .before .before .before .latitude-ok .ensures,
+  latitude (c .before .before .before .before .args .self .latitude) (omega arith),
+  longitude (c .before .before .before .before .args .self .longitude) (omega arith),
 )
 
 pub check-spec : {M : Type 1} → statement M

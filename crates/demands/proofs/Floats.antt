@@ -1,0 +1,91 @@
+-- Each angle's test on the bits is the range of its value, and the table and the rules follow; the division is cited. Assumes nothing.
+use Prim.Native.Nat.{ℕ, _%_, _^_, _≤_, _<_}
+use mathlib.Core.Bool.{Bool, true, false, cond, _||_}
+use mathlib.Core.List.{map}
+use mathlib.Core.Logic.{dite}
+use mathlib.Core.Path.{_≡_, refl, sym, _∙_}
+use native.Mathlib.Decide.{decLt}
+use native.Mathlib.Omega.{arith}
+use borrow.Author.Tests.{le-leb, lt-leb, lt-ltb, le-ltb}
+use lib.Dec.{leb, ltb, lit≤}
+use lib.Ieee.{binary32, ofBits, ofInt, lt, le, eq}
+use Rattle.rules.specs.Ranges.{between, angle, within, onBits}
+use Rattle.rules.proofs.Four as four
+use Rattle.gates.proofs.Gates.{by-zero}
+use Rattle.ask.proofs.Divided.{divided}
+use Rattle.demands.specs.Floats.{Angle, latitude, longitude, azimuth, elevation, inRange, Nan, OnBits, byRanges, byTests, table, Ruled, Floats}
+
+-- a test that goes by the sign
+turns : (upper lower b : ℕ) → upper < 2 ^ 31 → onBits upper lower b ≡ cond (ltb b (2 ^ 31)) (leb b upper) (leb b lower)
+unfolding onBits within
+turns upper lower b u =
+    dite (decLt b (2 ^ 31)) (λ h. rw (lt-ltb b (2 ^ 31) h, lt-leb (2 ^ 31) b h) (or-false (leb b upper)))
+    (λ h. rw (le-ltb b (2 ^ 31) (omega arith), lt-leb b upper (omega arith), le-leb (2 ^ 31) b (omega arith)))
+  where
+    or-false : (x : Bool) → (x || false) ≡ x
+    or-false true = refl
+    or-false false = refl
+
+-- a NaN lies past both ends
+past : (upper lower b : ℕ) → upper ≤ 0x7F80_0000 → lower ≤ 0xFF80_0000 → b < 2 ^ 32 → Nan b → cond (ltb b (2 ^ 31)) (leb b upper) (leb b lower) ≡ false
+past upper lower b u l h n =
+    let e = n .exponent in
+    let some : 0 < b % 2 ^ 23 = dite (decLt 0 (b % 2 ^ 23)) (λ k. k) (λ k. absurd (n .digits (omega arith))) in
+    dite (decLt b (2 ^ 31)) (λ k. rw (lt-ltb b (2 ^ 31) k, lt-leb b upper (omega arith)))
+    (λ k. rw (le-ltb b (2 ^ 31) (omega arith), lt-leb b lower (omega arith)))
+
+-- what is left for each angle is its law and its ends, which antt computes
+on-bits : (a : Angle) → (a .test ≡ onBits (a .upper) (a .lower)) → a .upper ≤ 0x7F80_0000 → a .lower ≤ 0xFF80_0000
+    → ((b : ℕ) → b < 2 ^ 32 → inRange a b ≡ a .test b)
+    → (eq (ofBits binary32 (a .upper)) (ofInt binary32 (a .to)) ≡ true) × (eq (ofBits binary32 (a .lower)) (ofInt binary32 (a .from)) ≡ true)
+    → OnBits a
+on-bits a is u l law ends =
+    let turned : (b : ℕ) → a .test b ≡ cond (ltb b (2 ^ 31)) (leb b (a .upper)) (leb b (a .lower)) = λ b. rw is (turns (a .upper) (a .lower) b (omega arith)) in
+    record { same = λ b h. sym (law b h); turns = λ b h. turned b; ends = ends; nan = λ b h n. turned b ∙ past (a .upper) (a .lower) b u l h n }
+
+on-latitude : OnBits latitude
+unfolding angle between eq ofBits ofInt
+on-latitude = on-bits latitude refl (lit≤ tt) (lit≤ tt) four.latitude (refl, refl)
+
+on-longitude : OnBits longitude
+unfolding angle between eq ofBits ofInt
+on-longitude = on-bits longitude refl (lit≤ tt) (lit≤ tt) four.longitude (refl, refl)
+
+on-azimuth : OnBits azimuth
+unfolding angle between eq ofBits ofInt
+on-azimuth = on-bits azimuth refl (lit≤ tt) (lit≤ tt) four.azimuth (refl, refl)
+
+on-elevation : OnBits elevation
+unfolding angle between eq ofBits ofInt
+on-elevation = on-bits elevation refl (lit≤ tt) (lit≤ tt) four.elevation (refl, refl)
+
+by-ranges : map byRanges table ≡ table
+unfolding table le lt eq ofBits ofInt
+by-ranges = refl
+
+by-tests : map byTests table ≡ table
+unfolding table onBits within ofBits
+by-tests = refl
+
+ruled : Ruled
+ruled =
+    record {
+      latitude = λ r h. rw (four.latitude (r .latitude) h);
+      longitude = λ r h. rw (four.longitude (r .longitude) h);
+      azimuth = λ r d h. rw (four.azimuth (r .azimuth) h);
+      elevation = λ r d h. rw (four.elevation (r .elevation) h);
+    }
+
+pub floats : Floats
+floats =
+    record {
+      latitude = on-latitude;
+      longitude = on-longitude;
+      azimuth = on-azimuth;
+      elevation = on-elevation;
+      by-ranges = by-ranges;
+      by-tests = by-tests;
+      rules = ruled;
+      division = divided;
+      by-zero = by-zero;
+    }
