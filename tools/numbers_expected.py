@@ -1,14 +1,18 @@
 #!/usr/bin/env python3
-"""What the program `numbers` prints: document 01's numbers that are run, an RHI of six layers (document 02, #103),
-and a cloud radar's file.
+"""What the program `numbers` prints: document 01's numbers that are run, the four angles by their bits (document 02, #105), an
+RHI of six layers (document 02, #103), and a cloud radar's file.
 
     (python3 tools/volumes.py layers; python3 tools/cloud.py) > crates/numbers/stdin
     python3 tools/numbers_expected.py > crates/numbers/stdout
 
 A line for each file: a label, the verdict, the bytes read and the whole radials. Of the small volume and of the six
 layers, every prefix, and the numbers 0 to 7 in the place of each radial's state, of the six layers in that of the scan
-type too: `at`, the place, and the number that stands there.
+type too: `at`, the place, and the number that stands there. Of the angles of the small volume, in hexadecimal digits: of the
+table's bits the four verdicts, and runs of bits of which the same is told, around each place where an answer may turn and
+through all patterns.
 """
+import itertools
+import struct
 import sys
 
 sys.dont_write_bytecode = True
@@ -89,6 +93,54 @@ def cloud_files():
     yield 'cloud radar, spectra', cloud.cloud(generic_type=3, **heights)
 
 
+# a NaN is an infinity with digits, and a quiet one has the highest of the 23
+QUIET = 2 ** 22
+
+
+def angle_places():
+    """Site and first radial stand at 32 and 672 of the small volume."""
+    places = {name: 32 + ref.PLACE['site', name] for name in ('latitude', 'longitude')}
+    return places | {name: 672 + ref.PLACE['radial', name] for name in ('azimuth', 'elevation')}
+
+
+def bits_of(x, steps=0):
+    """The bits of a single, or of its neighbour so many steps away from zero."""
+    return struct.unpack('<I', struct.pack('<f', x))[0] + steps
+
+
+def table_bits():
+    yield from (bits_of(0.0), bits_of(-0.0), bits_of(0.0, 1), bits_of(-0.0, 1))
+    for end in -2.0, 90.0, -90.0, 180.0, -180.0, 360.0:
+        yield from (bits_of(end, steps) for steps in (-1, 0, 1))
+    infinities = bits_of(float('inf')), bits_of(-float('inf'))
+    yield from infinities
+    for digits in (1, QUIET - 1), (QUIET, 2 * QUIET - 1):
+        yield from (infinity + some for infinity in infinities for some in digits)
+
+
+def with_bits(data, place, bits):
+    return told(ref.read(data[:place] + struct.pack('<I', bits % 2 ** 32) + data[place + 4:]))
+
+
+def sweeps():
+    for ends in (0.0, 90.0, 180.0, 360.0, float('inf')), (-0.0, -2.0, -90.0, -180.0, -float('inf')):
+        for centre in *map(bits_of, ends), bits_of(ends[-1], QUIET):
+            yield range(centre - 256, centre + 257)
+    yield (1048583 * i for i in range(4096))
+
+
+def show_angles(data):
+    print('bits: as ' + ', '.join(angle_places()))
+    for bits in table_bits():
+        print(f'{bits:08x}: ' + ', '.join(with_bits(data, place, bits) for place in angle_places().values()))
+    for name, place in angle_places().items():
+        print(name)
+        for sweep in sweeps():
+            for verdict, run in itertools.groupby(sweep, lambda bits: with_bits(data, place, bits)):
+                run = [bits % 2 ** 32 for bits in run]
+                print(f'{run[0]:08x} to {run[-1]:08x}: {verdict}')
+
+
 def show(files):
     for label, data in files:
         r = ref.read(data)
@@ -104,6 +156,7 @@ def main():
     show(files())
     show_runs(volumes.small())
     show(with_each(volumes.small(), *state_places(volumes.small())))
+    show_angles(volumes.small())
     layers = volumes.named('layers')
     show([('six layers', layers)])
     show(with_each(layers, 160 + ref.PLACE['task', 'scan type'], *state_places(layers)))

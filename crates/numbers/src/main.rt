@@ -1,6 +1,9 @@
-// Runs the numbers of document 01 that are run ("Numbers to try"), an RHI of six layers (document 02, #103) and a cloud radar's
-// file, which follow each other on standard input: for each file, a line of what reading tells, its verdict, the bytes read
-// and the whole radials.
+// Runs the numbers of document 01 that are run ("Numbers to try"), the four angles by their bits (document 02, #105), and an RHI of
+// six layers (document 02, #103) and a cloud radar's file, which follow each other on standard input: for each file, a line of
+// what reading tells, its verdict, the bytes read and the whole radials; of the angles the verdict alone.
+
+mod angles;
+
 ghost use Prim.Native.Nat.{_≤_};
 ghost use lib.ListN.{length};
 use libc::STDIN_FILENO;
@@ -74,6 +77,8 @@ fn fill(room: &mut [u8]) {
     }
 }
 
+const SMALL: usize = 872;
+
 // The small volume, and one byte more.
 fn small() -> [u8; 873] {
     let mut v = [0u8; 873];
@@ -101,9 +106,9 @@ fn wrong_magic() {
 fn cut_numbers() {
     let mut v = small();
     v[336] = 50;
-    tell(b"cut number 50:", &v, 872);
+    tell(b"cut number 50:", &v, SMALL);
     v[336] = 51;
-    tell(b"cut number 51:", &v, 872);
+    tell(b"cut number 51:", &v, SMALL);
 }
 
 // As many as of any task for scan type 5, and one for scan type 2, of which the first radial's state then is wrong.
@@ -111,14 +116,14 @@ fn cut_numbers_of_rhi() {
     let mut v = small();
     v[324] = 5;
     v[336] = 50;
-    tell(b"cut number 50, scan type 5:", &v, 872);
+    tell(b"cut number 50, scan type 5:", &v, SMALL);
     v[336] = 51;
-    tell(b"cut number 51, scan type 5:", &v, 872);
+    tell(b"cut number 51, scan type 5:", &v, SMALL);
     v[324] = 2;
     v[336] = 2;
-    tell(b"cut number 2, scan type 2:", &v, 872);
+    tell(b"cut number 2, scan type 2:", &v, SMALL);
     v[336] = 1;
-    tell(b"cut number 1, scan type 2:", &v, 872);
+    tell(b"cut number 1, scan type 2:", &v, SMALL);
 }
 
 fn microseconds() {
@@ -126,14 +131,14 @@ fn microseconds() {
     v[704] = 0x3f;
     v[705] = 0x42;
     v[706] = 0x0f;
-    tell(b"microseconds 999999:", &v, 872);
+    tell(b"microseconds 999999:", &v, SMALL);
     v[704] = 0x40;
-    tell(b"microseconds 1000000:", &v, 872);
+    tell(b"microseconds 1000000:", &v, SMALL);
 }
 
 fn lengths() {
     let v = small();
-    tell(b"small volume:", &v, 872);
+    tell(b"small volume:", &v, SMALL);
     tell(b"its first 871:", &v, 871);
     tell(b"one byte added:", &v, 873);
 }
@@ -226,12 +231,13 @@ fn with_each(buf: &mut [u8; 65536], n: usize, place: usize) {
     with_byte(buf, n, place, 7);
 }
 
-// Each state in the places of the small volume's two.
-fn small_states() {
+// Each state in the places of the small volume's two, and then its angles.
+fn small_changed() {
     let mut buf = io::large_buffer();
     fill(&mut buf);
-    with_each(&mut buf, 872, 672);
-    with_each(&mut buf, 872, 772);
+    with_each(&mut buf, SMALL, 672);
+    with_each(&mut buf, SMALL, 772);
+    angles::each(&mut buf);
 }
 
 // The bytes of the six layers, behind which the cloud radar's file begins.
@@ -285,8 +291,8 @@ fn main() {
     microseconds();
     lengths();
     let v = small();
-    prefixes(&v[0..872]);
-    small_states();
+    prefixes(&v[0..SMALL]);
+    small_changed();
     let mut buf = io::large_buffer();
     io::read_full(STDIN_FILENO, &mut buf);
     layers(&mut buf);
