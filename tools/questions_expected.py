@@ -16,7 +16,8 @@ documents' text alone; nothing in it comes from the program. A section for each 
     tallies C: for each type, radials/seven counts
 
 and after the whole volume's, each gate of some moments (kind, difference, scale, hundredths,
-the float's bits or the class), some gates in words, and rows in short rooms. A refusal is `no` and its number.
+the float's bits or the class), some gates in words, rows in short rooms, and codes over a scale of 0. A refusal is `no`
+and its number.
 """
 import struct
 import sys
@@ -181,6 +182,8 @@ def whole(data):
     yield in_words(ref.read(data[:1200]), 1, 1, 0)
     for asked in (1, 2, 13, 13), (1, 2, 12, 13), (1, 2, 13, 12), (1, 2, 0, 0), (9, 2, 0, 0), (1, 4, 0, 0):
         yield lent_row(r, *asked)
+    for code in 65, 66, 67, 2:
+        yield 'code %d less 66 over 0: %d %d %d %d %016x' % (code, *told(ref.gate_of(code, 0, 66, 2)))
 
 
 def copies(data):

@@ -342,6 +342,8 @@ def gate_of(code, scale, offset, type):
     if type in CLASSES:
         return Gate(6, code=code)
     n = code - offset
+    if scale == 0:             # which no file has; document 02, #105: nothing is divided
+        return Gate(5, 0.0, n, 0, 0)
     return Gate(5, float(n) / float(scale), n, scale, hundredths_of(n, scale))
 
 

@@ -8,6 +8,7 @@ use crate::print::signed;
 use crate::print::space;
 use ask::answers;
 use ask::answers::GateAnswer;
+use gates::Coding;
 use gates::Gate;
 use gates::Told;
 use libc::STDOUT_FILENO;
@@ -122,4 +123,20 @@ fn print_refusal(answer: GateAnswer) {
 pub(crate) fn print_all(file: &[u8], sequence: u32, t: u32) {
     print_refusal(answers::gate(file, sequence as usize, t, 18446744073709551615));
     part(sum(file, sequence, t));
+}
+
+// What `gates` tells of a code with an offset of 66.
+pub(crate) fn print_over(scale: u16, code: u16) {
+    word(b"code");
+    number(code as u64);
+    word(b" less 66 over");
+    number(scale as u64);
+    colon();
+    let c = Coding {
+        data_type: 2,
+        scale,
+        offset: 66,
+    };
+    print_told(gates::tell(c, code));
+    newline();
 }

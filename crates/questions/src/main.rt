@@ -1,6 +1,6 @@
 // Asks of the first volume on standard input, of shortened and damaged copies of it, and of the volume that follows it, what is
-// told of radials, moments, gates, rows and tallies (document 01, "What reading tells"; document 02, #101 and #103), and prints
-// the answers. The places named below are those of the volume `rich` of tools/volumes.py, of 2,535 bytes, eight radials and
+// told of radials, moments, gates, rows and tallies (document 01, "What reading tells"; document 02, #101, #103 and #105), and
+// prints the answers. The places named below are those of the volume `rich` of tools/volumes.py, of 2,535 bytes, eight radials and
 // three cuts; the volume behind it is `layers`, an RHI of six cuts with two radials each, and one more in the last.
 
 mod gates_told;
@@ -83,6 +83,19 @@ fn short_rooms(file: &[u8]) {
     rows_told::print_lent(file, 1, 4, 0, 0);
 }
 
+// The second byte of the generic type, a 0 that the compiler does not know.
+fn zero(file: &[u8]) -> u8 {
+    if 9 < file.len() { file[9] } else { 0 }
+}
+
+// Over a scale of 0, which no file has (document 02, #105): below the offset, at it, above it, and a special code.
+fn over_zero(scale: u16) {
+    gates_told::print_over(scale, 65);
+    gates_told::print_over(scale, 66);
+    gates_told::print_over(scale, 67);
+    gates_told::print_over(scale, 2);
+}
+
 fn prefixes(file: &[u8]) {
     section(b"one byte short", first(file, 2534));
     section(b"cut in radial 3", first(file, 1600));
@@ -121,6 +134,7 @@ fn main() {
     each_gate(file);
     in_words(file);
     short_rooms(file);
+    over_zero(zero(file) as u16);
     prefixes(file);
     damaged(b"bad state in radial 7", &mut buf, n, 2097, 9);
     damaged(b"bad type in radial 3", &mut buf, n, 1664, 2);
