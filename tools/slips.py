@@ -79,6 +79,21 @@ SLIPS = {
         (CLOSING, f'rw (not-turned _ (c .before .match .rest .1), {EARLIER})', f'rw ({LAST}, turned _ (c .match .keys1))'),
         (CLOSING, f'rw (not-turned _ (c .before .match .rest .1), {LAST})', f'rw ({LAST}, not-turned _ (c .match .rest .1))'),
     ],
+    # an elevation from -3 on (number 16)
+    'elevation_from_minus_three': [
+        ('crates/radial/specs/Radial.antt', 'angle (negsuc 1) (pos 90) (r .elevation)', 'angle (negsuc 2) (pos 90) (r .elevation)'),
+        ('crates/rules/specs/Ranges.antt', '0xC000_0000', '0xC040_0000'),
+        ('crates/rules/src/angles.rt', '0xC000_0000', '0xC040_0000'),
+        ('crates/rules/proofs/Four.antt', 'negsuc 1)', 'negsuc 2)'),
+        ('crates/rules/proofs/Four.antt', '0x4000_0000', '0x4040_0000'),
+        ('crates/rules/proofs/angles/elevation_ok/Proof.antt', '0xC000_0000', '0xC040_0000'),
+    ],
+    # a code over a scale of 0 told as 1 (document 02, #105)
+    'one_over_zero': [
+        ('crates/gates/specs/Gates.antt', '(fin false 0 (pos 0)) (div', '(fin false 1 (pos 0)) (div'),
+        ('crates/gates/src/lib.rt', 'return 0.0;', 'return 1.0;'),
+        ('crates/gates/proofs/Gates.antt', 'floatOf c code ≡ fin false 0 (pos 0)', 'floatOf c code ≡ fin false 1 (pos 0)'),
+    ],
     # the types seen not cleared at a new radial (number 20)
     'seen_not_cleared': [
         ('crates/walk/specs/After.antt', 'left = r .«length_of_data»; seen = 0;', 'left = r .«length_of_data»; seen = w .rest .seen;'),

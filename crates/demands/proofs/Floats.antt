@@ -11,6 +11,7 @@ use lib.Dec.{leb, ltb, lit≤}
 use lib.Ieee.{binary32, ofBits, ofInt, lt, le, eq}
 use Rattle.rules.specs.Ranges.{between, angle, within, onBits}
 use Rattle.rules.proofs.Four as four
+use Rattle.gates.proofs.Exact.{finite}
 use Rattle.gates.proofs.Gates.{by-zero}
 use Rattle.ask.proofs.Divided.{divided}
 use Rattle.demands.specs.Floats.{Angle, latitude, longitude, azimuth, elevation, inRange, Nan, OnBits, byRanges, byTests, table, Ruled, Floats}
@@ -70,10 +71,10 @@ by-tests = refl
 ruled : Ruled
 ruled =
     record {
-      latitude = λ r h. rw (four.latitude (r .latitude) h);
-      longitude = λ r h. rw (four.longitude (r .longitude) h);
-      azimuth = λ r d h. rw (four.azimuth (r .azimuth) h);
-      elevation = λ r d h. rw (four.elevation (r .elevation) h);
+      number-3 = λ r h. rw (four.latitude (r .latitude) h);
+      number-4 = λ r h. rw (four.longitude (r .longitude) h);
+      number-15 = λ r d h. rw (four.azimuth (r .azimuth) h);
+      number-16 = λ r d h. rw (four.elevation (r .elevation) h);
     }
 
 pub floats : Floats
@@ -88,4 +89,5 @@ floats =
       rules = ruled;
       division = divided;
       by-zero = by-zero;
+      finite = finite;
     }

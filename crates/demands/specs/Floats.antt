@@ -17,6 +17,7 @@ use Rattle.radial.specs.Radial.{radialRules}
 use Rattle.site.specs.declared.Site.{Site}
 use Rattle.site.specs.Site.{siteRules}
 use Rattle.gates.specs.declared.Coding.{Coding}
+use Rattle.gates.specs.Exact.{Finite}
 use Rattle.gates.specs.Gates.{floatOf, hundredthsOf, Values}
 use Rattle.gates.specs.Telling.{answered}
 use Rattle.ask.specs.Divided.{Divided}
@@ -47,7 +48,7 @@ elevation = record { from = negℤ (pos 2); to = pos 90; upper = 0x42B4_0000; lo
 abbrev pub inRange : Angle → ℕ → Bool
 inRange a b = le (ofInt binary32 (a .from)) (ofBits binary32 b) && le (ofBits binary32 b) (ofInt binary32 (a .to))
 
--- the bits of a NaN, of either sign: the eight of the exponent are ones, and one of the 23 below them is set. It is quiet where the
+-- the bits of a NaN, of either sign: the eight of the exponent are ones, and at least one of the 23 below them is. It is quiet where the
 -- first of these is 1, and signalling where it is 0
 pub record Nan (b : ℕ) : Type 0 where
   pub exponent : b / 2 ^ 23 % 256 ≡ 255
@@ -123,10 +124,10 @@ numbered n (r ∷ rs) = cond (eqb (r .number) n) (r ∷ numbered n rs) (numbered
 
 -- the rules by these numbers are these tests and no other, each at its field's place
 pub record Ruled : Type 0 where
-  pub latitude : (r : Site) → r .latitude < 2 ^ 32 → numbered 3 (siteRules r) ≡ rule 40 3 (latitude .test (r .latitude)) ∷ []
-  pub longitude : (r : Site) → r .longitude < 2 ^ 32 → numbered 4 (siteRules r) ≡ rule 44 4 (longitude .test (r .longitude)) ∷ []
-  pub azimuth : (r : Radial) (d : RadialDue) → r .azimuth < 2 ^ 32 → numbered 15 (radialRules r d) ≡ rule 20 15 (azimuth .test (r .azimuth)) ∷ []
-  pub elevation : (r : Radial) (d : RadialDue) → r .elevation < 2 ^ 32 → numbered 16 (radialRules r d) ≡ rule 24 16 (elevation .test (r .elevation)) ∷ []
+  pub number-3 : (r : Site) → r .latitude < 2 ^ 32 → numbered 3 (siteRules r) ≡ rule 40 3 (latitude .test (r .latitude)) ∷ []
+  pub number-4 : (r : Site) → r .longitude < 2 ^ 32 → numbered 4 (siteRules r) ≡ rule 44 4 (longitude .test (r .longitude)) ∷ []
+  pub number-15 : (r : Radial) (d : RadialDue) → r .azimuth < 2 ^ 32 → numbered 15 (radialRules r d) ≡ rule 20 15 (azimuth .test (r .azimuth)) ∷ []
+  pub number-16 : (r : Radial) (d : RadialDue) → r .elevation < 2 ^ 32 → numbered 16 (radialRules r d) ≡ rule 24 16 (elevation .test (r .elevation)) ∷ []
 
 pub record Floats : Type 0 where
   pub latitude : OnBits latitude
@@ -140,3 +141,5 @@ pub record Floats : Type 0 where
   pub division : (f : List ℕ) → Bytes f → (n t i : ℕ) (v : Values) → gateAsked f n t i ≡ answered v → v .gate .0 ≡ 5 → Divided v
   -- a caller of `gates` may have a scale of 0, which no file has: nothing is divided then
   pub by-zero : (c : Coding) (code : ℕ) → c .scale ≡ 0 → (floatOf c code ≡ fin false 0 (pos 0)) × (hundredthsOf c code ≡ pos 0)
+  -- so no gate's float is a NaN or an infinity, whatever 16 bits hold
+  pub finite : (c : Coding) (code : ℕ) → code < 65536 → c .offset < 65536 → c .scale < 65536 → Finite (floatOf c code)

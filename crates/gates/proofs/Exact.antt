@@ -1,6 +1,6 @@
 -- Whole numbers up to 2 ^ 53 either way are carried over into a double-precision float without loss, and so the float of a value
 -- is a quotient of two whole numbers. Assumes nothing.
-use mathlib.Core.Path.{_≡_, refl, sym, ap, _∙_}
+use mathlib.Core.Path.{_≡_, refl, sym, ap, subst, _∙_}
 use mathlib.Core.Logic.{dite}
 use Prim.Native.Nat.{ℕ, zero, suc, _^_, _≤_, _<_}
 use native.Mathlib.Decide.{decLt}
@@ -13,8 +13,9 @@ use lib.Ieee.{Float, nan, inf, fin, binary64, round, ofInt, div}
 use lib.Ieee.Back.{round-whole}
 use lib.Ieee.Exact.{HasValue}
 use Rattle.gates.specs.declared.Coding.{Coding}
-use Rattle.gates.specs.Exact.{Exactly, Lossless}
+use Rattle.gates.specs.Exact.{Exactly, Finite, Middling, Lossless}
 use Rattle.gates.specs.Gates.{differenceOf, floatOf}
+use Rattle.gates.proofs.Gates.{by-zero}
 use Rattle.gates.proofs.Quotients.{div-is, none, middling}
 use Rattle.gates.proofs.Signs.{diff-ge, diff-lt}
 
@@ -70,3 +71,19 @@ module _ (c : Coding) (code : ℕ) (C : code < 65536) (O : c .offset < 65536) (S
         at-zero = λ e. rounded ∙ ap (λ (z : ℤ). round binary64 (below-zero z) (natAbs z) (c .scale)) e ∙ none (c .scale) S;
         size = λ some. rw rounded (middling _ _ (c .scale) (not-zero (differenceOf c code) some) small S T);
       }
+
+middling-finite : (x : Float) → Middling x → Finite x
+middling-finite nan m = m
+middling-finite (inf s) m = m
+middling-finite (fin s m e) h = tt
+
+-- over a scale of 0 too
+pub finite : (c : Coding) (code : ℕ) → code < 65536 → c .offset < 65536 → c .scale < 65536 → Finite (floatOf c code)
+finite c code C O T =
+    dite (decLt 0 (c .scale)) (λ S. by-difference (differenceOf c code) refl (lossless c code C O S T))
+    (λ none. subst Finite (sym (by-zero c code (omega arith) .0)) tt)
+  where
+    by-difference : (z : ℤ) → differenceOf c code ≡ z → Lossless (differenceOf c code) (c .scale) (floatOf c code) → Finite (floatOf c code)
+    by-difference (pos zero) e l = subst Finite (sym (l .at-zero e)) tt
+    by-difference (pos (suc n)) e l = middling-finite (floatOf c code) (l .size (λ z. let a : suc n ≡ 0 = ap natAbs (sym e ∙ z) in omega arith))
+    by-difference (negsuc n) e l = middling-finite (floatOf c code) (l .size (λ z. let a : suc n ≡ 0 = ap natAbs (sym e ∙ z) in omega arith))

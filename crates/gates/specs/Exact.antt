@@ -12,6 +12,12 @@ Exactly nan z = ⊥
 Exactly (inf s) z = ⊥
 Exactly (fin s m e) z = (m * up e ≡ natAbs z * down e) × (z ≡ cond s (negℤ (pos (natAbs z))) (pos (natAbs z)))
 
+-- a float is neither a NaN nor an infinity
+abbrev pub Finite : Float → Type 0
+Finite nan = ⊥
+Finite (inf s) = ⊥
+Finite (fin s m e) = Unit {0}
+
 -- a float is in size at least 1 / 65,536 and below 65,536: finite, and far from where a double overflows or underflows
 abbrev pub Middling : Float → Type 0
 Middling nan = ⊥

@@ -55,7 +55,7 @@ fn difference(c: Coding, code: u16) -> i32
     (code as i32) - (c.offset as i32)
 }
 
-// The one float operation of the library, and none where scale is 0: that would be an invalid one where the difference is 0 too.
+// The one float operation of the library. Over a scale of 0 it is not made: 0 over 0 would be an invalid one.
 fn quotient(c: Coding, code: u16) -> f64
     ensures { λ r. ⌜ r ≡ floatOf c code ⌝ }
 {
