@@ -1,14 +1,16 @@
 -- Each angle's test on the bits is the range of its value, and the table and the rules follow; the division is cited. Assumes nothing.
-use Prim.Native.Nat.{ℕ, _%_, _^_, _≤_, _<_}
-use mathlib.Core.Bool.{Bool, true, false, cond, _||_}
+use Prim.Native.Nat.{ℕ, _/_, _%_, _^_, _≤_, _<_}
+use mathlib.Core.Bool.{Bool, true, false, cond, not, _||_, false≢true}
 use mathlib.Core.List.{map}
-use mathlib.Core.Logic.{dite}
+use mathlib.Core.Logic.{_↔_, dite}
 use mathlib.Core.Path.{_≡_, refl, sym, _∙_}
 use native.Mathlib.Decide.{decLt}
 use native.Mathlib.Omega.{arith}
-use borrow.Author.Tests.{le-leb, lt-leb, lt-ltb, le-ltb}
-use lib.Dec.{leb, ltb, lit≤}
-use lib.Ieee.{binary32, ofBits, ofInt, lt, le, eq}
+use borrow.Author.Tests.{le-leb, lt-leb, lt-ltb, le-ltb, eq-eqb, ne-eqb, eqb-true}
+use lib.Dec.{leb, ltb, eqb, lit≤}
+use lib.Ieee.{Float, nan, inf, fin, binary32, isNan, nanBits, ofBits, ofInt, lt, le, eq}
+use lib.Ieee.Bits.{nanBits-is}
+use Rattle.le.proofs.Tests.{both}
 use Rattle.rules.specs.Ranges.{between, angle, within, onBits}
 use Rattle.rules.proofs.Four as four
 use Rattle.gates.proofs.Exact.{finite}
@@ -34,6 +36,32 @@ past upper lower b u l h n =
     let some : 0 < b % 2 ^ 23 = dite (decLt 0 (b % 2 ^ 23)) (λ k. k) (λ k. absurd (n .digits (omega arith))) in
     dite (decLt b (2 ^ 31)) (λ k. rw (lt-ltb b (2 ^ 31) k, lt-leb b upper (omega arith)))
     (λ k. rw (le-ltb b (2 ^ 31) (omega arith), lt-leb b lower (omega arith)))
+
+only-nan : (x : Float) → isNan x ≡ true → x ≡ nan
+unfolding isNan
+only-nan nan e = refl
+only-nan (inf s) e = absurd (false≢true e)
+only-nan (fin s m k) e = absurd (false≢true e)
+
+nan-bits : (b : ℕ) → ofBits binary32 b ≡ nan → nanBits binary32 b ≡ true
+unfolding isNan
+nan-bits b e = nanBits-is binary32 b ∙ rw e refl
+
+nans : (b : ℕ) → b < 2 ^ 32 → (ofBits binary32 b ≡ nan) ↔ Nan b
+unfolding nanBits
+nans b h = (there, back)
+  where
+    there : ofBits binary32 b ≡ nan → Nan b
+    there e =
+        let a = both (eqb (b % 2 ^ 31 / 2 ^ 23) 255) (not (eqb (b % 2 ^ 23) 0)) (nan-bits b e) in
+        let x = eqb-true (b % 2 ^ 31 / 2 ^ 23) 255 (a .0) in
+        record { exponent = omega arith; digits = λ z. false≢true (rw (eq-eqb (b % 2 ^ 23) 0 z) at (a .1)) }
+
+    back : Nan b → ofBits binary32 b ≡ nan
+    back n =
+        let x = n .exponent in
+        let y : b % 2 ^ 31 / 2 ^ 23 ≡ 255 = omega arith in
+        only-nan (ofBits binary32 b) (sym (nanBits-is binary32 b) ∙ rw (eq-eqb (b % 2 ^ 31 / 2 ^ 23) 255 y, ne-eqb (b % 2 ^ 23) 0 (n .digits)))
 
 -- what is left for each angle is its law and its ends, which antt computes
 on-bits : (a : Angle) → (a .test ≡ onBits (a .upper) (a .lower)) → a .upper ≤ 0x7F80_0000 → a .lower ≤ 0xFF80_0000
@@ -84,6 +112,7 @@ floats =
       longitude = on-longitude;
       azimuth = on-azimuth;
       elevation = on-elevation;
+      nans = nans;
       by-ranges = by-ranges;
       by-tests = by-tests;
       rules = ruled;

@@ -4,6 +4,7 @@
 use Prim.Native.Nat.{ℕ, _/_, _%_, _^_, _<_}
 use mathlib.Core.Bool.{Bool, true, false, cond, _&&_}
 use mathlib.Core.List.{List, [], _∷_, map}
+use mathlib.Core.Logic.{_↔_}
 use mathlib.Core.Path.{_≡_}
 use lib.Dec.{leb, ltb, eqb}
 use lib.IntN.{ℤ, pos, negsuc, negℤ}
@@ -48,8 +49,8 @@ elevation = record { from = negℤ (pos 2); to = pos 90; upper = 0x42B4_0000; lo
 abbrev pub inRange : Angle → ℕ → Bool
 inRange a b = le (ofInt binary32 (a .from)) (ofBits binary32 b) && le (ofBits binary32 b) (ofInt binary32 (a .to))
 
--- the bits of a NaN, of either sign: the eight of the exponent are ones, and at least one of the 23 below them is. It is quiet where the
--- first of these is 1, and signalling where it is 0
+-- the bits of a NaN, of either sign: the eight of the exponent are ones, and at least one of the 23 below them is. It is quiet where
+-- the first of these is 1, and signalling where it is 0
 pub record Nan (b : ℕ) : Type 0 where
   pub exponent : b / 2 ^ 23 % 256 ≡ 255
   pub digits : b % 2 ^ 23 ≡ 0 → ⊥
@@ -134,6 +135,8 @@ pub record Floats : Type 0 where
   pub longitude : OnBits longitude
   pub azimuth : OnBits azimuth
   pub elevation : OnBits elevation
+  -- these bits, and no others, are a NaN
+  pub nans : (b : ℕ) → b < 2 ^ 32 → (ofBits binary32 b ≡ nan) ↔ Nan b
   pub by-ranges : map byRanges table ≡ table
   pub by-tests : map byTests table ≡ table
   pub rules : Ruled

@@ -2,8 +2,8 @@
 -- bits, neither of them 0, it is middling. Assumes nothing.
 use mathlib.Core.Path.{_≡_, refl, sym, _∙_, subst}
 use mathlib.Core.Bool.{Bool, true, false}
-use Prim.Native.Nat.{ℕ, suc, _*_, _^_, _≤_, _<_}
-use native.Mathlib.Nat.{mul-one, mul-comm, mul-assoc, mul-left-comm, mul-right-comm, mul-pos, zero-mul, mul-le-mul-right, mul-lt-mul-of-pos-right, le-of-mul-le-mul-right, lt-of-mul-lt-mul-right, lt-of-le-of-lt}
+use Prim.Native.Nat.{ℕ, _*_, _^_, _≤_, _<_}
+use native.Mathlib.Nat.{mul-one, mul-comm, mul-assoc, mul-left-comm, mul-right-comm, mul-pos, zero-mul, mul-le-mul-right, mul-lt-mul-of-pos-right, le-of-mul-le-mul-right, lt-of-mul-lt-mul-right}
 use native.Mathlib.Omega.{arith}
 use lib.Dec.{T, lit<}
 use lib.IntN.{pos}
@@ -13,7 +13,7 @@ use lib.Ieee.Exact.{HasValue, units-val}
 use lib.Ieee.Fits.{down-pos, round-is}
 use lib.Ieee.Order.{kept, drop, round-mono}
 use lib.Ieee.Positive.{positive-finite, positive-of-value, values-of-le, between}
-use lib.Ieee.Scale.{grid, overflow, round-same, round-val, round-under}
+use lib.Ieee.Scale.{grid, round-same, round-val, round-under}
 use borrow.Author.Tests.{ne-eqb}
 use Rattle.gates.specs.Exact.{Middling}
 

@@ -83,7 +83,7 @@ fn line(buf: &mut [u8; 65536], bits: u32) {
     newline();
 }
 
-fn table(buf: &mut [u8; 65536]) {
+fn each_line(buf: &mut [u8; 65536]) {
     let mut i = 0;
     while i < 32 {
         line(buf, pattern(i));
@@ -165,7 +165,7 @@ fn sweeps(buf: &mut [u8; 65536], place: usize) {
 
 pub fn each(buf: &mut [u8; 65536]) {
     word(b"bits: as latitude, longitude, azimuth, elevation\n");
-    table(buf);
+    each_line(buf);
     word(b"latitude\n");
     sweeps(buf, LATITUDE);
     word(b"longitude\n");
