@@ -8,7 +8,6 @@ use mathlib.Core.Path.{_≡_}
 use lib.ListN.{length}
 use Rattle.gates.specs.Codes.{gatesIn, codesOf}
 use Rattle.gates.specs.Exact.{Lossless}
-use Rattle.gates.specs.Gates.{differenceOf, floatOf}
 use Rattle.moment.specs.Moment.{momentAt}
 use Rattle.moments.specs.Moments.{dataAt}
 use Rattle.ask.specs.Answers.{codingOf}
@@ -20,4 +19,4 @@ pub record Sound (b : List ℕ) (p : ℕ) : Type 0 where
   pub coding : codingOf (momentAt b p) ≡ record { «data_type» = momentAt b p .«data_type»; scale = momentAt b p .scale; offset = momentAt b p .offset }
   pub bytes : length (dataAt b p) ≡ momentAt b p .length
   pub gates : length (codesOf (momentAt b p .«bin_length») (dataAt b p)) ≡ gatesIn (momentAt b p .length) (momentAt b p .«bin_length»)
-  pub float : (code : ℕ) → code < 65536 → Lossless (differenceOf (codingOf (momentAt b p)) code) (codingOf (momentAt b p) .scale) (floatOf (codingOf (momentAt b p)) code)
+  pub float : (code : ℕ) → code < 65536 → Lossless (codingOf (momentAt b p)) code

@@ -94,7 +94,7 @@ pub record Codes : Type 0 where
       → (kindOf c code ≡ 5 → (isMeasurement (c .«data_type») ≡ true) × (5 ≤ code)) × (isMeasurement (c .«data_type») ≡ true → 5 ≤ code → kindOf c code ≡ 5)
   pub class-kind : (c : Coding) (code : ℕ)
       → (kindOf c code ≡ 6 → (isMeasurement (c .«data_type») ≡ false) × (5 ≤ code)) × (isMeasurement (c .«data_type») ≡ false → 5 ≤ code → kindOf c code ≡ 6)
-  pub float : (c : Coding) (code : ℕ) → code < 65536 → c .offset < 65536 → 1 ≤ c .scale → c .scale < 65536 → Lossless (differenceOf c code) (c .scale) (floatOf c code)
+  pub float : (c : Coding) (code : ℕ) → code < 65536 → c .offset < 65536 → 1 ≤ c .scale → c .scale < 65536 → Lossless c code
   pub hundredths : (c : Coding) (code : ℕ) → 0 < c .scale → Nearest (differenceOf c code) (c .scale) (hundredthsOf c code)
 
 -- a row shows of each gate the kind and the hundredths that the gate question answers, and it shows them all

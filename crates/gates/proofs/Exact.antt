@@ -58,7 +58,7 @@ module _ (c : Coding) (code : ℕ) (C : code < 65536) (O : c .offset < 65536) (S
       let small = size code (c .offset) C O in
       divided ∙ div-is _ _ _ _ (c .scale) S (value (differenceOf c code) (omega arith)) (value (pos (c .scale)) (omega arith))
 
-  pub lossless : Lossless (differenceOf c code) (c .scale) (floatOf c code)
+  pub lossless : Lossless c code
   lossless =
       let small = size code (c .offset) C O in
       record {
@@ -83,7 +83,7 @@ finite c code C O T =
     dite (decLt 0 (c .scale)) (λ S. by-difference (differenceOf c code) refl (lossless c code C O S T))
     (λ none. subst Finite (sym (by-zero c code (omega arith) .0)) tt)
   where
-    by-difference : (z : ℤ) → differenceOf c code ≡ z → Lossless (differenceOf c code) (c .scale) (floatOf c code) → Finite (floatOf c code)
+    by-difference : (z : ℤ) → differenceOf c code ≡ z → Lossless c code → Finite (floatOf c code)
     by-difference (pos zero) e l = subst Finite (sym (l .at-zero e)) tt
     by-difference (pos (suc n)) e l = middling-finite (floatOf c code) (l .size (λ z. let a : suc n ≡ 0 = ap natAbs (sym e ∙ z) in omega arith))
     by-difference (negsuc n) e l = middling-finite (floatOf c code) (l .size (λ z. let a : suc n ≡ 0 = ap natAbs (sym e ∙ z) in omega arith))

@@ -5,6 +5,8 @@ use mathlib.Core.Path.{_≡_}
 use Prim.Native.Nat.{ℕ, _*_, _≤_, _<_}
 use lib.IntN.{ℤ, pos, negℤ, natAbs}
 use lib.Ieee.{Float, nan, inf, fin, binary64, up, down, div}
+use Rattle.gates.specs.declared.Coding.{Coding}
+use Rattle.gates.specs.Gates.{differenceOf, floatOf}
 
 -- a float is exactly a whole number: plus or minus m * 2 ^ e is that number, 2 ^ e being up e / down e
 abbrev pub Exactly : Float → ℤ → Type 0
@@ -25,9 +27,9 @@ Middling (inf s) = ⊥
 Middling (fin s m e) = (down e ≤ m * up e * 65536) × (m * up e < 65536 * down e)
 
 -- a float is the double-precision quotient of two floats that are exactly two whole numbers. The division flags nothing but that it
--- is inexact: it is not invalid, since both are finite and the lower one is not 0, which it would have to be for a division by
--- zero; and it neither overflows nor underflows, since the quotient is 0 or middling
-pub record Lossless (difference : ℤ) (scale : ℕ) (x : Float) : Type 0 where
+-- is inexact: both floats are finite and the lower one is not 0, so it is neither invalid nor a division by zero; and the quotient
+-- is 0 or middling, so it neither overflows nor underflows
+pub record Quotient (difference : ℤ) (scale : ℕ) (x : Float) : Type 0 where
   pub upper : Float
   pub lower : Float
   pub upper-is : Exactly upper difference
@@ -36,3 +38,7 @@ pub record Lossless (difference : ℤ) (scale : ℕ) (x : Float) : Type 0 where
   pub quotient : x ≡ div binary64 upper lower
   pub at-zero : difference ≡ pos 0 → x ≡ fin false 0 (pos 0)
   pub size : (difference ≡ pos 0 → ⊥) → Middling x
+
+-- the float of a value is the quotient of the code less the offset by the scale
+abbrev pub Lossless : Coding → ℕ → Type 0
+Lossless c code = Quotient (differenceOf c code) (c .scale) (floatOf c code)

@@ -20,8 +20,8 @@ isMeasurement t = not (eqb t 14 || eqb t 15)
 abbrev pub differenceOf : Coding → ℕ → ℤ
 differenceOf c code = pos code -ℤ pos (c .offset)
 
--- one division in double precision, of the difference by the scale. By 0, as no accepted header has it, nothing is divided,
--- since that would be an invalid operation (document 02, #105): it is plus zero, as the hundredths are 0
+-- one division in double precision, of the difference by the scale. By 0, as no accepted header has it, nothing is divided, since 0
+-- over 0 is an invalid operation (document 02, #105): it is plus zero, as the hundredths are 0
 unfoldable pub floatOf : Coding → ℕ → Float
 floatOf c code = cond (eqb (c .scale) 0) (fin false 0 (pos 0)) (div binary64 (ofInt binary64 (differenceOf c code)) (ofInt binary64 (pos (c .scale))))
 

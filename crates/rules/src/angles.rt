@@ -1,6 +1,6 @@
 // The four angles (document 01, numbers 3, 4, 15 and 16), each decided on the bits of its IEEE single with no float operation:
-// a damaged header may hold a signalling NaN, and to compare one raises a fault (document 02, #105). Each has the run of bits
-// with the sign clear, then the run with the sign set, up to the bits of its ends.
+// a damaged header may hold a signalling NaN, and to compare one is an invalid operation (document 02, #105). Each has the run of
+// bits with the sign clear, then the run with the sign set, up to the bits of its ends.
 ghost use mathlib.Core.Path.{_≡_};
 ghost use Rattle.rules.specs.Ranges.{latitudeBits, longitudeBits, azimuthBits, elevationBits};
 
