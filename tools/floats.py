@@ -22,6 +22,7 @@ import re
 import subprocess
 import sys
 import tempfile
+import textwrap
 
 # In the operations' names: floatDiv, intToFloat, floatToBits, ..
 OPERATION = re.compile(r'\((?:op[12]) \(?(\w*[fF]loat\w*)')
@@ -78,7 +79,8 @@ def show(title, kinds):
     for name, found in kinds.items():
         for function, counts in found.items():
             print(f'    {name}: {function}: ' + ', '.join(f'{n} {op}' for op, n in sorted(counts.items())))
-    print('    none: ' + ', '.join(name for name, found in kinds.items() if not found))
+    none = ', '.join(name for name, found in kinds.items() if not found)
+    print(textwrap.fill(f'none: {none}', 110, initial_indent='    ', subsequent_indent='        '))
 
 
 def listed():
