@@ -1,33 +1,23 @@
 -- Each angle's test on the bits is the range of its value, and the table and the rules follow; the division is cited. Assumes nothing.
 use Prim.Native.Nat.{ℕ, _/_, _%_, _^_, _≤_, _<_}
-use mathlib.Core.Bool.{Bool, true, false, cond, not, _||_, false≢true}
+use mathlib.Core.Bool.{true, false, cond, not, false≢true}
 use mathlib.Core.List.{map}
 use mathlib.Core.Logic.{_↔_, dite}
 use mathlib.Core.Path.{_≡_, refl, sym, _∙_}
 use native.Mathlib.Decide.{decLt}
 use native.Mathlib.Omega.{arith}
-use borrow.Author.Tests.{le-leb, lt-leb, lt-ltb, le-ltb, eq-eqb, ne-eqb, eqb-true}
+use borrow.Author.Tests.{lt-leb, lt-ltb, le-ltb, eq-eqb, ne-eqb, eqb-true}
 use lib.Dec.{leb, ltb, eqb, lit≤}
 use lib.Ieee.{Float, nan, inf, fin, binary32, isNan, nanBits, ofBits, ofInt, lt, le, eq}
 use lib.Ieee.Bits.{nanBits-is}
 use Rattle.le.proofs.Tests.{both}
 use Rattle.rules.specs.Ranges.{between, angle, within, onBits}
 use Rattle.rules.proofs.Four as four
+use Rattle.rules.proofs.Order.{by-sign}
 use Rattle.gates.proofs.Exact.{finite}
 use Rattle.gates.proofs.Gates.{by-zero}
 use Rattle.ask.proofs.Divided.{divided}
 use Rattle.demands.specs.Floats.{Angle, latitude, longitude, azimuth, elevation, inRange, Nan, OnBits, byRanges, byTests, table, Ruled, Floats}
-
--- a test that goes by the sign
-turns : (upper lower b : ℕ) → upper < 2 ^ 31 → onBits upper lower b ≡ cond (ltb b (2 ^ 31)) (leb b upper) (leb b lower)
-unfolding onBits within
-turns upper lower b u =
-    dite (decLt b (2 ^ 31)) (λ h. rw (lt-ltb b (2 ^ 31) h, lt-leb (2 ^ 31) b h) (or-false (leb b upper)))
-    (λ h. rw (le-ltb b (2 ^ 31) (omega arith), lt-leb b upper (omega arith), le-leb (2 ^ 31) b (omega arith)))
-  where
-    or-false : (x : Bool) → (x || false) ≡ x
-    or-false true = refl
-    or-false false = refl
 
 -- a NaN lies past both ends
 past : (upper lower b : ℕ) → upper ≤ 0x7F80_0000 → lower ≤ 0xFF80_0000 → b < 2 ^ 32 → Nan b → cond (ltb b (2 ^ 31)) (leb b upper) (leb b lower) ≡ false
@@ -69,7 +59,7 @@ on-bits : (a : Angle) → (a .test ≡ onBits (a .upper) (a .lower)) → a .uppe
     → (eq (ofBits binary32 (a .upper)) (ofInt binary32 (a .to)) ≡ true) × (eq (ofBits binary32 (a .lower)) (ofInt binary32 (a .from)) ≡ true)
     → OnBits a
 on-bits a is u l law ends =
-    let turned : (b : ℕ) → a .test b ≡ cond (ltb b (2 ^ 31)) (leb b (a .upper)) (leb b (a .lower)) = λ b. rw is (turns (a .upper) (a .lower) b (omega arith)) in
+    let turned : (b : ℕ) → a .test b ≡ cond (ltb b (2 ^ 31)) (leb b (a .upper)) (leb b (a .lower)) = λ b. rw is (by-sign (a .upper) (a .lower) b (omega arith)) in
     record { same = λ b h. sym (law b h); turns = λ b h. turned b; ends = ends; nan = λ b h n. turned b ∙ past (a .upper) (a .lower) b u l h n }
 
 on-latitude : OnBits latitude

@@ -83,7 +83,10 @@ finite c code C O T =
     dite (decLt 0 (c .scale)) (λ S. by-difference (differenceOf c code) refl (lossless c code C O S T))
     (λ none. subst Finite (sym (by-zero c code (omega arith) .0)) tt)
   where
+    some : Lossless c code → 0 < natAbs (differenceOf c code) → Finite (floatOf c code)
+    some l h = middling-finite (floatOf c code) (l .size (λ z. let a : natAbs (differenceOf c code) ≡ 0 = ap natAbs z in omega arith))
+
     by-difference : (z : ℤ) → differenceOf c code ≡ z → Lossless c code → Finite (floatOf c code)
     by-difference (pos zero) e l = subst Finite (sym (l .at-zero e)) tt
-    by-difference (pos (suc n)) e l = middling-finite (floatOf c code) (l .size (λ z. let a : suc n ≡ 0 = ap natAbs (sym e ∙ z) in omega arith))
-    by-difference (negsuc n) e l = middling-finite (floatOf c code) (l .size (λ z. let a : suc n ≡ 0 = ap natAbs (sym e ∙ z) in omega arith))
+    by-difference (pos (suc n)) e l = some l (rw e (omega arith))
+    by-difference (negsuc n) e l = some l (rw e (omega arith))

@@ -163,6 +163,17 @@ beyond lo hi r t a b c s m p q h k = let e : m / 8388608 ≡ 255 = omega arith i
     go (fin u n d) (fin v n' d') true true p q = refl
     go (fin u n d) (fin v n' d') false true p q = refl
 
+-- ---- the test on the bits goes by the sign
+pub by-sign : (upper lower b : ℕ) → upper < 2147483648 → onBits upper lower b ≡ cond (ltb b 2147483648) (leb b upper) (leb b lower)
+unfolding onBits within
+by-sign upper lower b u =
+    dite (decLt b 2147483648) (λ h. rw (lt-ltb b 2147483648 h, lt-leb 2147483648 b h) (or-false (leb b upper)))
+    (λ h. rw (le-ltb b 2147483648 (omega arith), lt-leb b upper (omega arith), le-leb 2147483648 b (omega arith)))
+  where
+    or-false : (x : Bool) → (x || false) ≡ x
+    or-false true = refl
+    or-false false = refl
+
 -- ---- a range, on the patterns; `low` and `high` are those of its ends without their signs
 module _ (lo hi : Float) (s : Bool) (low high : ℕ) (L : low < 2139095040) (U : high < 2139095040)
     (is-lo : HasValue lo s (mag low) (2 ^ 149)) (w : Low s (mag low)) (is-hi : HasValue hi false (mag high) (2 ^ 149)) where
@@ -202,17 +213,13 @@ module _ (lo hi : Float) (s : Bool) (low high : ℕ) (L : low < 2139095040) (U :
       and-true false = refl
 
   pub by-bits : (b : ℕ) → b < 2 ^ 32 → between lo hi (ofBits binary32 b) ≡ onBits high (2147483648 + low) b
-  unfolding onBits within
   by-bits b h =
-      dite (decLt b 2147483648)
-      (λ k. rw (ofBits-is b b false (lt-leb 2147483648 b k) (mod-eq-of-lt k), clear b k, lt-leb 2147483648 b k) (or-false (leb b high)))
+      rw (by-sign high (2147483648 + low) b (omega arith))
+      (dite (decLt b 2147483648)
+      (λ k. rw (ofBits-is b b false (lt-leb 2147483648 b k) (mod-eq-of-lt k), clear b k, lt-ltb b 2147483648 k))
       (λ k. let m = b - 2147483648 in
-      rw (ofBits-is b m true (le-leb 2147483648 b (omega arith)) (omega arith), signed m (omega arith), lt-leb b high (omega arith), le-leb 2147483648 b (omega arith)) (same b m (omega arith)))
+      rw (ofBits-is b m true (le-leb 2147483648 b (omega arith)) (omega arith), signed m (omega arith), le-ltb b 2147483648 (omega arith)) (same b m (omega arith))))
     where
-      or-false : (x : Bool) → x ≡ (x || false)
-      or-false true = refl
-      or-false false = refl
-
       same : (b m : ℕ) → b ≡ 2147483648 + m → leb m low ≡ leb b (2147483648 + low)
       same b m e =
           dite (decLt low m) (λ h. lt-leb m low h ∙ sym (lt-leb b (2147483648 + low) (omega arith)))
