@@ -46,7 +46,7 @@ def wrong_from_the_start():
 
 def large():
     """Full counts, and files longer than the listing program takes."""
-    for name in ('many_cuts', 'too_many_cuts', 'many_layers', 'too_many_layers', 'too_many_for_2',
+    for name in ('cuts_50', 'cuts_51', 'cuts_120', 'layers_120', 'many_cuts', 'too_many_cuts', 'many_layers', 'too_many_layers', 'too_many_for_2',
                  'many_moments', 'full', 'longest', 'long_cut', 'too_long_cut'):
         data = volumes.named(name)
         yield name, data
@@ -331,7 +331,7 @@ def cut_structure():
                 spec['cuts'] = [copy.deepcopy(spec['cuts'][0]) for _ in range(cuts)]
                 spec['task']['scan type'] = scan
                 yield f'{base}-scan{scan}-cuts{cuts}', volumes.build(spec)
-        for count in (0, 1, 2, 4, 50, 51):
+        for count in (0, 1, 2, 4, 50, 51, 256, 257):
             spec = volumes.SPECS[base]()
             spec['task']['cut number'] = count
             yield f'{base}-cut_number_{count}', volumes.build(spec)

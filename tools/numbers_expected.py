@@ -47,9 +47,9 @@ def files():
     yield 'empty', b''
     yield 'wrong magic, 31 bytes', wrong[:31]
     yield 'wrong magic, 32 bytes', wrong[:32]
-    for n in (50, 51):
+    for n in (50, 51, 256, 257):
         yield f'cut number {n}', with_task(cut_number=n)
-    for n, scan_type in (50, 5), (51, 5), (2, 2), (1, 2):
+    for n, scan_type in (256, 5), (257, 5), (2, 2), (1, 2):
         task = with_task(cut_number=n, scan_type=scan_type)[:416]
         yield f'cut number {n}, scan type {scan_type}', task + data[416:]
     for n in (999999, 1000000):

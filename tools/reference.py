@@ -15,6 +15,7 @@ from collections import namedtuple
 MAGIC = 0x4D545352
 LISTING_TAKES = 65536          # "Numbers to try": the listing's part of the input
 INT_MAX = 2**31 - 1
+MOST_CUTS, MOST_SEQUENCE = 256, 65536    # document 02, #106
 
 # --------------------------------------------------------------------------
 # "Blocks, with byte places inside each": (name, place, struct format).
@@ -146,7 +147,7 @@ RULES = {
         (5, 'polarization', 1, 4, None),
         (6, 'scan type', 0, 6, None),
         (7, 'start time', 0, INT_MAX, None),
-        (8, 'cut number', 1, 50, cut_number_ok)],
+        (8, 'cut number', 1, MOST_CUTS, cut_number_ok)],
     'cut': [
         (9, 'process mode', 1, 2, None),
         (9, 'wave form', 0, 6, None),
@@ -157,9 +158,9 @@ RULES = {
     'radial': [
         (10, 'state', 0, 6, state_ok),
         (11, 'spot blank', 0, 1, None),
-        (12, 'sequence', 1, INT_MAX, lambda v, f, at: v == at.before + 1),
+        (12, 'sequence', 1, MOST_SEQUENCE, lambda v, f, at: v == at.before + 1),
         (13, 'radial number', 1, 1000, lambda v, f, at: v == at.in_cut + 1),
-        (14, 'elevation number', 1, 50, lambda v, f, at: v == at.cut),
+        (14, 'elevation number', 1, MOST_CUTS, lambda v, f, at: v == at.cut),
         (15, 'azimuth', 0, 360, None),
         (16, 'elevation', -2, 90, None),
         (17, 'seconds', 0, INT_MAX, None),
@@ -365,13 +366,22 @@ def read(data):
 # --------------------------------------------------------------------------
 # "The house index".
 
+def old_start(cuts):
+    return struct.pack('<B', cuts)
+
+
+def new_start(cuts):                                    # document 02, #106
+    return b'\0' + struct.pack('<H', cuts)
+
+
 def index(data, room=None):
     """The index's bytes; with a room (its length), 33 where it is too short."""
     r = read(data)
     if r.verdict != 'complete':
         return refused(36)
     per_cut = [sum(q.cut == c for q in r.radials) for c in range(1, len(r.cuts) + 1)]
-    out = struct.pack('<B', len(per_cut)) + b''.join(struct.pack('<H', n) for n in per_cut)
+    out = (old_start if len(per_cut) <= 50 else new_start)(len(per_cut))
+    out += b''.join(struct.pack('<H', n) for n in per_cut)
     out += struct.pack('<I', len(r.radials))
     out += b''.join(struct.pack('<Q', q.place) for q in r.radials)
     return refused(33) if room is not None and room < len(out) else out

@@ -58,7 +58,7 @@ SLIPS = {
     ],
     # types 2 and 5 taken for each other in how many cuts a task may have (number 8; document 02, #103)
     'two_in_layers': [
-        ('crates/rules/specs/States.antt', 'cond (is 2 (int scan)) 1 50', 'cond (is 5 (int scan)) 1 50'),
+        ('crates/rules/specs/States.antt', 'cond (is 2 (int scan)) 1 256', 'cond (is 5 (int scan)) 1 256'),
         ('crates/rules/src/states.rt', '2 => match x {', '5 => match x {'),
         ('crates/rules/proofs/Numbers.antt', 'scan ≡ 2 → mostCuts', 'scan ≡ 5 → mostCuts'),
         ('crates/rules/proofs/Numbers.antt', '(scan ≡ 2 → ⊥) → mostCuts', '(scan ≡ 5 → ⊥) → mostCuts'),

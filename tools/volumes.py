@@ -168,8 +168,8 @@ def layers_spec(scan_type=5):
     return volume(cuts, **{'scan type': scan_type})
 
 
-def many_cuts_spec(count=50, scan_type=4):
-    """The most cuts that pass, two radials each."""
+def many_cuts_spec(count=ref.MOST_CUTS, scan_type=4):
+    """Many cuts, two radials each; from 145 cuts on longer than what the listing program takes."""
     pair = [radial(moment(2, [2])), radial(moment(2, [0]))]
     return volume([cut(pair) for _ in range(count)], **{'scan type': scan_type})
 
@@ -201,8 +201,10 @@ SPECS = {
     'small': small_spec, 'rich': rich_spec,
     'rhi2': lambda: rhi_spec(2), 'rhi5': lambda: rhi_spec(5),
     'layers': layers_spec, 'too_many_for_2': lambda: layers_spec(2),
-    'many_cuts': many_cuts_spec, 'too_many_cuts': lambda: many_cuts_spec(51),
-    'many_layers': lambda: many_cuts_spec(50, 5), 'too_many_layers': lambda: many_cuts_spec(51, 5),
+    'cuts_50': lambda: many_cuts_spec(50), 'cuts_51': lambda: many_cuts_spec(51),
+    'cuts_120': lambda: many_cuts_spec(120), 'layers_120': lambda: many_cuts_spec(120, 5),
+    'many_cuts': many_cuts_spec, 'too_many_cuts': lambda: many_cuts_spec(257),
+    'many_layers': lambda: many_cuts_spec(256, 5), 'too_many_layers': lambda: many_cuts_spec(257, 5),
     'many_moments': many_moments_spec, 'full': full_spec, 'longest': longest_spec,
     'long_cut': long_cut_spec, 'too_long_cut': lambda: long_cut_spec(1001),
 }
@@ -289,6 +291,18 @@ def check():
             tried = data[:q.place] + bytes([state]) + data[q.place + 1:]
             if state not in ([5] if first else [1, 6]):
                 assert told(tried) == (('refused', 10, q.place), q.place, n)
+
+    # document 02, #106: up to 256 cuts; from 51 on the index starts with a 0 byte and the count in two
+    for count, start in (50, '32'), (51, '003300'), (120, '007800'), (255, '00ff00'), (256, '000001'):
+        data = build(many_cuts_spec(count))
+        assert told(data) == ('complete', len(data), 2 * count)
+        index, start = ref.index(data), bytes.fromhex(start)
+        rest = struct.pack('<H', 2) * count + struct.pack('<I', 2 * count)
+        places = range(416 + 256 * count, len(data), 97)
+        assert index == start + rest + b''.join(struct.pack('<Q', place) for place in places)
+        assert ref.index_right(data, index)
+        other = ref.new_start(count) if count <= 50 else bytes([count % 256])
+        assert not ref.index_right(data, other + index[len(start):])
 
     # the other volumes: valid ones are complete, and written block by block the same
     for name in SPECS:

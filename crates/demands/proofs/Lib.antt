@@ -1,3 +1,5 @@
+pub mod Contents
+pub mod Cuts
 pub mod Floats
 pub mod One
 pub mod States

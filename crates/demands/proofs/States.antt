@@ -35,7 +35,7 @@ says scan l cuts at =
 
 -- scan types that are no RHI
 abbrev flat : Line
-flat = many 50 (from 3 4) (from 3 2) (from 0 2) (from 0 4)
+flat = many 256 (from 3 4) (from 3 2) (from 0 2) (from 0 4)
 
 flat-states : (scan n k : ℕ) → rhi scan ≡ false → CutOf flat n k → (opening scan k ≡ statesIn flat n k .opens) × (closing scan n k ≡ statesIn flat n k .closes)
 unfolding opening closing
@@ -65,9 +65,9 @@ same false true d s = refl
 same false false true s = refl
 same false false false s = refl
 
-says-five : Says 5 (many 50 (from 5 6) (from 5 6) (from 5 6) (from 5 6))
+says-five : Says 5 (many 256 (from 5 6) (from 5 6) (from 5 6) (from 5 6))
 says-five =
-    says 5 (many 50 (from 5 6) (from 5 6) (from 5 6) (from 5 6)) (many-cuts 5 (λ e. omega arith))
+    says 5 (many 256 (from 5 6) (from 5 6) (from 5 6) (from 5 6)) (many-cuts 5 (λ e. omega arith))
     (λ n k c. rw (same (eqb n 1) (eqb k 1) (ltb k n) (from 5 6)) (rhi-states 5 n k (inr refl)))
 
 line-says : (scan : ℕ) → scan < length table → Says scan (lineOf scan)

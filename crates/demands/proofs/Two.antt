@@ -29,6 +29,7 @@ use Rattle.writer.proofs.Blocks.{same-blocks}
 use Rattle.writer.proofs.Copying.{copy-of}
 use Rattle.writer.proofs.Refusing.{same-place}
 use Rattle.writer.proofs.Runs.{run-back}
+use Rattle.demands.proofs.Cuts.{many-cuts-hold}
 use Rattle.demands.proofs.Floats.{floats}
 use Rattle.demands.proofs.States.{state-rule}
 use Rattle.demands.specs.Two.{RefusedExactly, WholeRadials, Codes, Trips, Writing, IndexRight, DemandTwo}
@@ -95,6 +96,7 @@ demand-two =
       volumes = record { means = means; sense = sense };
       exactly = refused-exactly;
       states = state-rule;
+      cuts = many-cuts-hold;
       floats = floats;
       radials = whole-radials;
       codes = codes;

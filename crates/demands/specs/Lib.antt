@@ -1,4 +1,5 @@
 pub mod Floats
+pub mod Cuts
 pub mod One
 pub mod States
 pub mod Two

@@ -30,13 +30,13 @@ pub data Line : Type 0 where
 -- scan types 0 to 6 of table 2-4, in their order: volume scan, PPI, RHI, sector, sector volume, RHI in several layers, by hand
 unfoldable pub table : List Line
 table =
-    many 50 (from 3 4) (from 3 2) (from 0 2) (from 0 4)
-    ∷ many 50 (from 3 4) (from 3 2) (from 0 2) (from 0 4)
+    many 256 (from 3 4) (from 3 2) (from 0 2) (from 0 4)
+    ∷ many 256 (from 3 4) (from 3 2) (from 0 2) (from 0 4)
     ∷ one (from 5 6)
-    ∷ many 50 (from 3 4) (from 3 2) (from 0 2) (from 0 4)
-    ∷ many 50 (from 3 4) (from 3 2) (from 0 2) (from 0 4)
-    ∷ many 50 (from 5 6) (from 5 6) (from 5 6) (from 5 6)
-    ∷ many 50 (from 3 4) (from 3 2) (from 0 2) (from 0 4)
+    ∷ many 256 (from 3 4) (from 3 2) (from 0 2) (from 0 4)
+    ∷ many 256 (from 3 4) (from 3 2) (from 0 2) (from 0 4)
+    ∷ many 256 (from 5 6) (from 5 6) (from 5 6) (from 5 6)
+    ∷ many 256 (from 3 4) (from 3 2) (from 0 2) (from 0 4)
     ∷ []
 
 -- the most cuts that a line allows

@@ -46,6 +46,7 @@ use Rattle.index.specs.Answer.{rightFor}
 use Rattle.index.specs.Index.{indexOf}
 use Rattle.writer.specs.Block.{Block}
 use Rattle.writer.specs.Trips.{Fits, TakenWhen, Keeps, CopyOf, SameBlock, Run, SameBlocks, SamePlace, ReadBack}
+use Rattle.demands.specs.Cuts.{Cuts}
 use Rattle.demands.specs.Floats.{Floats}
 use Rattle.demands.specs.States.{StateRule}
 
@@ -134,7 +135,8 @@ pub record Writing : Type 0 where
   pub blocks : {bs : List Block} {w : Walk} {room : List ℕ} → Run bs w room → SameBlocks bs w room
   pub place : (b : Block) → Fits b → (w : Walk) (room : List ℕ) → SamePlace b w room
 
--- an index is right for a file exactly when the file is complete and the bytes are its index
+-- an index is right for a file exactly when the file is complete and the bytes are its index; what the bytes are, in two forms, is in
+-- `Cuts`
 pub record IndexRight : Type 0 where
   pub only : (f x : List ℕ) → rightFor f x ≡ true → (told f ≡ 0 ∷ []) × (indexOf f ≡ x)
   pub when : (f x : List ℕ) → told f ≡ 0 ∷ [] → indexOf f ≡ x → rightFor f x ≡ true
@@ -144,6 +146,8 @@ pub record DemandTwo : Type 0 where
   pub exactly : RefusedExactly
   -- which states are allowed where, as a table (`States`)
   pub states : StateRule
+  -- up to 256 cuts: how far the counts go, and the index in its two forms (`Cuts`)
+  pub cuts : Cuts
   -- the angles' tests on the bits, and the one float operation (`Floats`)
   pub floats : Floats
   pub radials : WholeRadials

@@ -18,7 +18,7 @@ use Rattle.index.proofs.Same.{not-same}
 number-is : (k v : ℕ) (f : List ℕ) (at : ℕ) → Bytes f → le k f at ≡ v % 256 ^ k → part k f at ≡ bytes k v
 number-is k v f at bs e = sym (bytes-le k f at bs) ∙ ap (bytes k) e ∙ bytes-low k v
 
-number-of : (k v : ℕ) (f : List ℕ) (at : ℕ) → part k f at ≡ bytes k v → le k f at ≡ v % 256 ^ k
+pub number-of : (k v : ℕ) (f : List ℕ) (at : ℕ) → part k f at ≡ bytes k v → le k f at ≡ v % 256 ^ k
 number-of k v f at e =
     let h = mod-lt v {m = 256 ^ k} (one-le-pow k 256 (lit< tt)) in
     sym (le-own k f at) ∙ ap (λ (l : List ℕ). le k l 0) (e ∙ sym (bytes-low k v))

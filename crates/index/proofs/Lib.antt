@@ -1,8 +1,10 @@
 pub mod Same
 pub mod Walked
 pub mod Chained
+pub mod Starts
 pub mod Sections
 pub mod Agree
 pub mod Filled
 pub mod Entries
 pub mod Layouts
+pub mod Forms

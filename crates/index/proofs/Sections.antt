@@ -5,25 +5,26 @@ use Prim.Native.Nat.{ℕ, zero, suc, _+_, _*_, _-_, _<_, _≤_}
 use native.Mathlib.Nat.{zero-add, add-zero}
 use native.Mathlib.Numerals.{add-one}
 use native.Mathlib.Omega.{arith}
-use mathlib.Core.Bool.{false}
+use mathlib.Core.Bool.{true, false}
 use mathlib.Core.List.{List, [], _∷_, _++_, append-assoc}
 use mathlib.Core.Logic.{_⊎_, inl, inr}
 use mathlib.Core.Path.{_≡_, refl, sym, ap, ap₂, _∙_}
 use borrow.Author.Tests.{eq-eqb, ne-eqb}
-use lib.ListN.{length, getD, drop, length-append}
+use lib.ListN.{length, drop, length-append}
 use lib.Seq.{drop-at, drop-append-seam, drop-drop}
 use Rattle.le.specs.Le.{bytes, part, run}
 use Rattle.le.proofs.Laws.{length-bytes, length-run, part-in, part-drop, part-all}
 use Rattle.reading.specs.declared.Stretch.{Stretch}
-use Rattle.index.specs.Index.{radialsIn, perCut, startOf, countOf, cutSection, placeOf, radialSection, indexFor}
+use Rattle.index.specs.Index.{radialsIn, perCut, startOf, countOf, cutSection, placeOf, radialSection, indexBy, indexFor}
 use Rattle.index.specs.Answer.{same}
 use Rattle.index.specs.Making.{secondAt}
 use Rattle.index.proofs.Agree.{differs}
+use Rattle.index.proofs.Same.{same-is, is-same}
 use Rattle.index.proofs.Walked.{Rising, rising-from, rising-none}
 
 -- ---- the entry that is the next of what is to come, and what follows it
 
-next-entry : (f : List ℕ) (at k : ℕ) (x y : List ℕ) → drop at f ≡ x ++ y → length x ≡ k → (part k f at ≡ x) × (drop (at + k) f ≡ y)
+pub next-entry : (f : List ℕ) (at k : ℕ) (x y : List ℕ) → drop at f ≡ x ++ y → length x ≡ k → (part k f at ≡ x) × (drop (at + k) f ≡ y)
 next-entry f at k x y e l = (
   ap (part k f) (sym (add-zero at)) ∙ sym (part-drop k at f 0) ∙ ap (λ (g : List ℕ). part k g 0) e ∙ part-in k x y 0 (omega arith) ∙ part-all k x l,
   sym (drop-drop k at f) ∙ ap (drop k) e ∙ drop-at x y k l,
@@ -31,28 +32,27 @@ next-entry f at k x y e l = (
 
 -- ---- lengths
 
-length-per-cut : (n cut : ℕ) (ss : List Stretch) → length (perCut n cut ss) ≡ n
+pub length-per-cut : (n cut : ℕ) (ss : List Stretch) → length (perCut n cut ss) ≡ n
 unfolding perCut
 length-per-cut zero cut ss = refl
 length-per-cut (suc n) cut ss = ap suc (length-per-cut n (suc cut) ss)
 
-pub length-start : (cuts : ℕ) → length (startOf cuts) ≡ 1
-unfolding startOf
-length-start cuts = length-bytes 1 cuts
-
-length-cuts : (cuts : ℕ) (ss : List Stretch) → length (cutSection cuts ss) ≡ secondAt cuts
+length-cuts : (start : ℕ → List ℕ) (cuts : ℕ) (ss : List Stretch) → length (cutSection start cuts ss) ≡ length (start cuts) + 2 * cuts
 unfolding cutSection countOf
-length-cuts cuts ss =
-    length-append (startOf cuts) (run countOf (perCut cuts 1 ss))
-    ∙ ap (λ (n : ℕ). length (startOf cuts) + n) (length-run countOf 2 (length-bytes 2) (perCut cuts 1 ss) ∙ ap (λ (n : ℕ). 2 * n) (length-per-cut cuts 1 ss))
+length-cuts start cuts ss =
+    length-append (start cuts) (run countOf (perCut cuts 1 ss))
+    ∙ ap (λ (n : ℕ). length (start cuts) + n) (length-run countOf 2 (length-bytes 2) (perCut cuts 1 ss) ∙ ap (λ (n : ℕ). 2 * n) (length-per-cut cuts 1 ss))
 
-pub length-index : (cuts : ℕ) (ss : List Stretch) → length (indexFor cuts ss) ≡ secondAt cuts + 4 + 8 * length ss
-unfolding indexFor radialSection placeOf
-length-index cuts ss =
-    let c = length-cuts cuts ss in
+pub length-by : (start : ℕ → List ℕ) (cuts : ℕ) (ss : List Stretch) → length (indexBy start cuts ss) ≡ length (start cuts) + 2 * cuts + 4 + 8 * length ss
+unfolding indexBy radialSection placeOf
+length-by start cuts ss =
+    let c = length-cuts start cuts ss in
     let b = length-bytes 4 (length ss) in
     let r = length-run placeOf 8 (λ s. length-bytes 8 (s .start)) ss in
     simp length-append (omega arith)
+
+pub length-index : (cuts : ℕ) (ss : List Stretch) → length (indexFor cuts ss) ≡ secondAt cuts + 4 + 8 * length ss
+length-index cuts ss = length-by startOf cuts ss
 
 -- ---- counts still to come: the first of n cuts has had some radials already
 
@@ -95,29 +95,29 @@ module _ (cuts : ℕ) (ss : List Stretch) where
 
   -- the counts with which the sections start, and what follows them
   start-first : indexFor cuts ss ≡ startOf cuts ++ (run countOf (perCut cuts 1 ss) ++ radialSection ss)
-  unfolding indexFor cutSection
+  unfolding indexBy cutSection
   start-first = append-assoc (startOf cuts) (run countOf (perCut cuts 1 ss)) (radialSection ss)
 
   pub start-here : part (length (startOf cuts)) (indexFor cuts ss) 0 ≡ startOf cuts
   start-here = next-entry (indexFor cuts ss) 0 (length (startOf cuts)) (startOf cuts) _ start-first refl .0
 
   radials-first : (part 4 (indexFor cuts ss) (secondAt cuts) ≡ bytes 4 (length ss)) × (drop (secondAt cuts + 4) (indexFor cuts ss) ≡ run placeOf ss)
-  unfolding indexFor radialSection
+  unfolding indexBy radialSection
   radials-first =
       next-entry (indexFor cuts ss) (secondAt cuts) 4 (bytes 4 (length ss)) (run placeOf ss)
-      (drop-at (cutSection cuts ss) (radialSection ss) (secondAt cuts) (length-cuts cuts ss)) (length-bytes 4 (length ss))
+      (drop-at (cutSection startOf cuts ss) (radialSection ss) (secondAt cuts) (length-cuts startOf cuts ss)) (length-bytes 4 (length ss))
 
   pub radials-here : part 4 (indexFor cuts ss) (secondAt cuts) ≡ bytes 4 (length ss)
   radials-here = radials-first .0
 
-  -- a start that is the index's, and one that is another: it is one byte
-  pub start-stands : (x : List ℕ) → getD x 0 0 ≡ getD (startOf cuts) 0 0 → part (length (startOf cuts)) x 0 ≡ part (length (startOf cuts)) (indexFor cuts ss) 0
-  unfolding startOf bytes part
-  start-stands x e = ap (λ (n : ℕ). n ∷ []) e ∙ sym start-here
+  -- a start that is the index's, and one that is another
+  pub start-stands : (x : List ℕ) → same (startOf cuts) (part (length (startOf cuts)) x 0) ≡ true → part (length (startOf cuts)) x 0 ≡ part (length (startOf cuts)) (indexFor cuts ss) 0
+  start-stands x e = sym (same-is (startOf cuts) (part (length (startOf cuts)) x 0) e) ∙ sym start-here
 
-  pub start-differs : (x : List ℕ) → (getD x 0 0 ≡ getD (startOf cuts) 0 0 → ⊥) → same (indexFor cuts ss) x ≡ false
-  unfolding startOf bytes part
-  start-differs x n = differs (indexFor cuts ss) x (length (startOf cuts)) 0 (startOf cuts) start-here (λ q. n (ap (λ (f : List ℕ). getD f 0 0) q))
+  pub start-differs : (x : List ℕ) → same (startOf cuts) (part (length (startOf cuts)) x 0) ≡ false → same (indexFor cuts ss) x ≡ false
+  start-differs x n =
+      differs (indexFor cuts ss) x (length (startOf cuts)) 0 (startOf cuts) start-here
+      (λ q. let y = is-same (startOf cuts) (part (length (startOf cuts)) x 0) (sym q) in let z : _≡_ {A = ℕ} 0 1 = cc in omega arith)
 
   -- before the first entry
   pub making : Rising 1 ss → Making (length (startOf cuts)) (secondAt cuts + 4) 1 0 ss

@@ -1,3 +1,4 @@
 pub mod Index
+pub mod Forms
 pub mod Answer
 pub mod Making

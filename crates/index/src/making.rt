@@ -4,12 +4,13 @@
 // other compares them with an index.
 ghost use mathlib.Core.Path.{_≡_};
 ghost use Prim.Native.Nat.{_+_, _%_, _^_, _≤_, _<_};
+ghost use lib.Dec.{leb};
 ghost use lib.ListN.{length};
-ghost use Rattle.le.specs.Le.{patch};
+ghost use Rattle.le.specs.Le.{part, patch, stored};
 ghost use Rattle.radial.specs.Radial.{radialSize};
 ghost use Rattle.reading.specs.Reading.{stretches};
 ghost use Rattle.index.specs.Answer.{same};
-ghost use Rattle.index.specs.Index.{startOf, indexFor};
+ghost use Rattle.index.specs.Index.{oldStart, newStart, mostOld, startOf, indexFor};
 ghost use Rattle.index.specs.Making.{secondAt, cutsIn, firstRadial, entryOf};
 use cut::Cut;
 use radial::Radial;
@@ -58,20 +59,68 @@ fn behind(at: usize, header: Radial) -> usize
     at + Radial::SIZE + (header.length_of_data as usize)
 }
 
-// How long the start of an index is, and its bytes.
-const START: usize = 1;
+// Whether an index of so many cuts has the old form (document 02, #106).
+fn old_form(cuts: u32) -> bool
+    ensures { λ r. ⌜ r ≡ leb cuts mostOld ⌝ }
+{
+    match cuts {
+        0..=50 => true,
+        _ => false,
+    }
+}
 
-fn start(cuts: u32) -> [u8; 1]
-    ensures { λ r. ⌜ r ≡ startOf cuts ⌝ }
+// The start of an index in either form, and how long it is.
+fn old_start(cuts: u32) -> [u8; 1]
+    ensures { λ r. ⌜ r ≡ oldStart cuts ⌝ }
 {
     [(cuts % 256) as u8]
+}
+
+fn new_start(cuts: u32) -> [u8; 3]
+    ensures { λ r. ⌜ r ≡ newStart cuts ⌝ }
+{
+    [0, (cuts % 256) as u8, (cuts / 256 % 256) as u8]
+}
+
+fn start_length(cuts: u32) -> usize
+    ensures { λ r. ⌜ r ≡ length (startOf cuts) ⌝ }
+{
+    if old_form(cuts) { 1 } else { 3 }
+}
+
+fn put_start(room: &mut [u8], cuts: u32)
+    ensures { λ _. ⌜ now (room .exit) ≡ stored (length (startOf cuts)) (now (room .entry)) 0 (startOf cuts) ⌝ }
+{
+    if old_form(cuts) {
+        le::put(room, 0, &old_start(cuts));
+        return;
+    }
+    le::put(room, 0, &new_start(cuts));
+}
+
+fn start_stands(index: &[u8], cuts: u32) -> bool
+    requires { ⌜ 3 ≤ length (now index) ⌝ }
+    ensures { λ r. ⌜ r ≡ same (startOf cuts) (part (length (startOf cuts)) (now (index .entry)) 0) ⌝ }
+{
+    if old_form(cuts) {
+        let start = old_start(cuts);
+        return start[0] == index[0];
+    }
+    let start = new_start(cuts);
+    if start[0] != index[0] {
+        return false;
+    }
+    if start[1] != index[1] {
+        return false;
+    }
+    start[2] == index[2]
 }
 
 // Where the second section starts.
 pub(crate) fn second_at(cuts: u32) -> usize
     ensures { λ r. ⌜ r ≡ secondAt cuts ⌝ }
 {
-    START + 2 * (cuts as usize)
+    start_length(cuts) + 2 * (cuts as usize)
 }
 
 // A count in 2 bytes, and in 4.
@@ -93,8 +142,8 @@ pub(crate) fn put(file: &[u8], room: &mut [u8], cuts: u32, radials: usize)
     requires { ⌜ length (indexFor cuts (stretches (now file))) ≤ length (now room) ⌝ }
     ensures { λ _. ⌜ now (room .exit) ≡ patch (now (room .entry)) 0 (indexFor cuts (stretches (now (file .entry)))) ⌝ }
 {
-    le::put(room, 0, &start(cuts));
-    let mut first = START;
+    put_start(room, cuts);
+    let mut first = start_length(cuts);
     let mut second = second_at(cuts);
     le::put_u32(room, second, word(radials));
     second += 4;
@@ -131,11 +180,10 @@ pub(crate) fn stands(file: &[u8], index: &[u8], cuts: u32, radials: usize) -> bo
     requires { ⌜ length (now index) ≡ length (indexFor cuts (stretches (now file))) ⌝ }
     ensures { λ r. ⌜ r ≡ same (indexFor cuts (stretches (now (file .entry)))) (now (index .entry)) ⌝ }
 {
-    let start = start(cuts);
-    if index[0] != start[0] {
+    if !start_stands(index, cuts) {
         return false;
     }
-    let mut first = START;
+    let mut first = start_length(cuts);
     let mut second = second_at(cuts);
     if le::u32_at(index, second) != word(radials) {
         return false;

@@ -103,24 +103,32 @@ fn wrong_magic() {
     tell(b"wrong magic, 32 bytes:", &v, 32);
 }
 
+// Up to 256 (document 02, #106).
 fn cut_numbers() {
     let mut v = small();
     v[336] = 50;
     tell(b"cut number 50:", &v, SMALL);
     v[336] = 51;
     tell(b"cut number 51:", &v, SMALL);
+    v[336] = 0;
+    v[337] = 1;
+    tell(b"cut number 256:", &v, SMALL);
+    v[336] = 1;
+    tell(b"cut number 257:", &v, SMALL);
 }
 
 // As many as of any task for scan type 5, and one for scan type 2, of which the first radial's state then is wrong.
 fn cut_numbers_of_rhi() {
     let mut v = small();
     v[324] = 5;
-    v[336] = 50;
-    tell(b"cut number 50, scan type 5:", &v, SMALL);
-    v[336] = 51;
-    tell(b"cut number 51, scan type 5:", &v, SMALL);
+    v[336] = 0;
+    v[337] = 1;
+    tell(b"cut number 256, scan type 5:", &v, SMALL);
+    v[336] = 1;
+    tell(b"cut number 257, scan type 5:", &v, SMALL);
     v[324] = 2;
     v[336] = 2;
+    v[337] = 0;
     tell(b"cut number 2, scan type 2:", &v, SMALL);
     v[336] = 1;
     tell(b"cut number 1, scan type 2:", &v, SMALL);

@@ -5,7 +5,7 @@ use mathlib.Core.List.{List, [], _∷_, _++_}
 use lib.ListN.{length}
 use lib.IntN.{pos, negsuc}
 use Rattle.le.specs.Le.{le, bytes, part, run, int}
-use Rattle.rules.specs.Ranges.{among, angle, counts, countsInCut, is, notBelowZero}
+use Rattle.rules.specs.Ranges.{among, angle, counts, is, mostRadials, mostSequence, notBelowZero}
 use Rattle.rules.specs.States.{stateOk}
 use Rattle.rules.specs.Tiling.{momentNumberOk}
 use Rattle.radial.specs.declared.Radial.{Radial}
@@ -67,10 +67,10 @@ radialRules r d =
     rule 0 10 (stateOk (d .«scan_type») (d .cuts) (d .cut) (d .«in_cut») (r .state))
     -- spot blank (table 3-1): 0..1
     ∷ rule 4 11 (among (pos 0) (pos 1) (int (r .«spot_blank»)))
-    -- sequence (table 3-1): 1 more than the radials before it
-    ∷ rule 8 12 (counts (d .before) (r .sequence))
+    -- sequence (table 3-1): 1 more than the radials before it, at most 65,536
+    ∷ rule 8 12 (counts mostSequence (d .before) (r .sequence))
     -- radial number (table 3-1): its count in the cut, at most 1000
-    ∷ rule 12 13 (countsInCut (d .«in_cut») (r .«radial_number»))
+    ∷ rule 12 13 (counts mostRadials (d .«in_cut») (r .«radial_number»))
     -- elevation number (table 3-1): the cut's number
     ∷ rule 16 14 (is (d .cut) (int (r .«elevation_number»)))
     -- azimuth (table 3-1): 0..360

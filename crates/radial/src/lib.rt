@@ -3,7 +3,7 @@ ghost use mathlib.Core.Path.{_≡_};
 ghost use Prim.Native.Nat.{_+_, _≤_};
 ghost use lib.ListN.{length};
 ghost use Rattle.le.specs.Le.{stored, patch, int};
-ghost use Rattle.rules.specs.Ranges.{among, is, counts, countsInCut};
+ghost use Rattle.rules.specs.Ranges.{among, is, counts, mostRadials, mostSequence};
 ghost use lib.IntN.{pos};
 ghost use Rattle.radial.specs.Radial.{radialOf, radialAt, radialBytes, radialSize, radialCheck};
 use rules::angles;
@@ -205,19 +205,19 @@ fn spot_blank_ok(x: u32) -> bool
     }
 }
 
-// Number 12 (table 3-1): one more than the radials before it.
+// Number 12 (table 3-1): one more than the radials before it, 65,536 at the most (document 02, #106).
 fn sequence_ok(before: usize, x: u32) -> bool
-    ensures { λ r. ⌜ r ≡ counts before x ⌝ }
+    ensures { λ r. ⌜ r ≡ counts mostSequence before x ⌝ }
 {
     match x {
-        1..=0x7fff_ffff => (x - 1) as usize == before,
+        1..=65536 => (x - 1) as usize == before,
         _ => false,
     }
 }
 
 // Number 13 (table 3-1): its count in the cut, 1000 at the most.
 fn radial_number_ok(before: usize, x: u32) -> bool
-    ensures { λ r. ⌜ r ≡ countsInCut before x ⌝ }
+    ensures { λ r. ⌜ r ≡ counts mostRadials before x ⌝ }
 {
     match x {
         1..=1000 => (x - 1) as usize == before,

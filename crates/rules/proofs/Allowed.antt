@@ -1,22 +1,29 @@
--- What number 8 and the state rule allow, both ways, by the numbers of specs/States. Assumes nothing.
+-- What numbers 8, 10, 12 and 13 allow, both ways, by the numbers of specs/States and specs/Ranges. Assumes nothing.
 use mathlib.Core.Path.{_≡_, refl, sym}
 use mathlib.Core.Bool.{Bool, true, false, _||_, or-true}
 use mathlib.Core.Logic.{_⊎_, inl, inr, _↔_}
-use Prim.Native.Nat.{ℕ, _≤_}
+use Prim.Native.Nat.{ℕ, _+_, _≤_, _<_}
 use native.Mathlib.Omega.{arith}
-use borrow.Author.Tests.{ne-eqb}
+use borrow.Author.Tests.{le-leb, ne-eqb}
 use lib.Dec.{lit<}
 use mir.Syntax.{w32}
 use Rattle.le.specs.Le.{int}
-use Rattle.rules.specs.Ranges.{is}
+use Rattle.rules.specs.Ranges.{is, counts}
 use Rattle.rules.specs.States.{mostCuts, cutNumberOk, opening, closing, stateOk}
-use Rattle.rules.proofs.Numbers.{inside, some-cut, most, exact, exact-if, mostCuts-small, opening-small, closing-small}
+use Rattle.rules.proofs.Numbers.{inside, some-cut, most, exact, exact-if, counts-is, counts-most, mostCuts-small, opening-small, closing-small}
 
 pub cuts-allowed : (scan n : ℕ) → (cutNumberOk scan n ≡ true) ↔ ((1 ≤ n) × (n ≤ mostCuts scan))
 unfolding cutNumberOk
 cuts-allowed scan n =
     let small = mostCuts-small scan in
     (λ e. (some-cut scan n e, most w32 1 (mostCuts scan) n small e), λ h. sym (inside w32 1 (mostCuts scan) n small (h .0) (omega arith)))
+
+pub count-allowed : (most before n : ℕ) → most < 2147483648 → (counts most before n ≡ true) ↔ ((n ≡ before + 1) × (n ≤ most))
+unfolding counts
+count-allowed most before n small = (
+  λ e. let is = counts-is most before n e in let h = counts-most most before n e in (is, omega arith),
+  λ h. let e = h .0 in let k = h .1 in rw (exact-if (before + 1) n (omega arith) e, le-leb (before + 1) most (omega arith)),
+)
 
 pub first-allowed : (scan cuts cut s : ℕ) → (stateOk scan cuts cut 0 s ≡ true) ↔ (s ≡ opening scan cut)
 unfolding stateOk

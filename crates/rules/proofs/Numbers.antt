@@ -17,7 +17,7 @@ use Rattle.le.specs.Le.{int}
 use Rattle.le.proofs.Tests.{both, eqb-same}
 use Rattle.rules.specs.States.{rhi, mostCuts, cutNumberOk, opening, closing}
 use Rattle.rules.specs.Tiling.{momentNumberOk}
-use Rattle.rules.specs.Ranges.{among, is, within, notBelowZero, counts, countsInCut}
+use Rattle.rules.specs.Ranges.{among, is, within, notBelowZero, counts}
 
 and-false : (b : Bool) → (b && false) ≡ false
 and-false true = refl
@@ -83,20 +83,20 @@ pub over : (lo hi x : ℕ) → suc hi ≤ x → within lo hi x ≡ false
 unfolding within
 over lo hi x a = rw (lt-leb x hi (omega arith)) (and-false (leb lo x))
 
--- one more than what was counted before it, within a cut: below the sign bit the tests decide
-pub in-cut : (before x : ℕ) → 1 ≤ x → x < 1001 → eqb (x - 1) before ≡ countsInCut before x
-unfolding countsInCut counts
-in-cut before x a b =
-    dite (decLt before 1000)
-    (λ h. rw (exactly-clear w32 (before + 1) x (omega arith), le-leb (before + 1) 1000 (omega arith)) (eqb-same (x - 1) before x (before + 1) (λ e. omega arith) (λ e. omega arith) ∙ and-true (eqb x (before + 1))))
-    (λ h. rw (lt-leb (before + 1) 1000 (omega arith), ne-eqb (x - 1) before (λ e. omega arith)) (sym (and-false (among (pos (before + 1)) (pos (before + 1)) (toZ w32 x)))))
+-- one more than what was counted before it, and not past the most: below the sign bit the tests decide
+pub counted : (most before x : ℕ) → most < 2147483648 → 1 ≤ x → x < suc most → eqb (x - 1) before ≡ counts most before x
+unfolding counts
+counted most before x small a b =
+    dite (decLt before most)
+    (λ h. rw (exactly-clear w32 (before + 1) x (omega arith), le-leb (before + 1) most (omega arith)) (eqb-same (x - 1) before x (before + 1) (λ e. omega arith) (λ e. omega arith) ∙ and-true (eqb x (before + 1))))
+    (λ h. rw (lt-leb (before + 1) most (omega arith), ne-eqb (x - 1) before (λ e. omega arith)) (sym (and-false (among (pos (before + 1)) (pos (before + 1)) (toZ w32 x)))))
 
-pub out-of-cut : (before x : ℕ) → (1 ≤ x → x < 1001 → ⊥) → false ≡ countsInCut before x
-unfolding countsInCut counts
-out-of-cut before x o =
-    dite (decLt before 1000)
-    (λ h. let small : before + 1 < 2147483648 = omega arith in rw (exactly w32 (before + 1) x small, ne-eqb x (before + 1) (λ e. o (omega arith) (omega arith))))
-    (λ h. rw (lt-leb (before + 1) 1000 (omega arith)) (sym (and-false (among (pos (before + 1)) (pos (before + 1)) (toZ w32 x)))))
+pub not-counted : (most before x : ℕ) → most < 2147483648 → (1 ≤ x → x < suc most → ⊥) → false ≡ counts most before x
+unfolding counts
+not-counted most before x small o =
+    dite (decLt before most)
+    (λ h. let fits : before + 1 < 2147483648 = omega arith in rw (exactly w32 (before + 1) x fits, ne-eqb x (before + 1) (λ e. o (omega arith) (omega arith))))
+    (λ h. rw (lt-leb (before + 1) most (omega arith)) (sym (and-false (among (pos (before + 1)) (pos (before + 1)) (toZ w32 x)))))
 
 -- one bit of a 64-bit word, as the shift makes it
 pub one-bit : (k : ℕ) → k < 64 → (1 * 2 ^ k) % 18446744073709551616 ≡ 2 ^ k
@@ -117,7 +117,7 @@ pub one-cut : (scan : ℕ) → scan ≡ 2 → mostCuts scan ≡ 1
 unfolding mostCuts
 one-cut scan e = rw (exactly w32 2 scan (lit< tt), eq-eqb scan 2 e)
 
-pub many-cuts : (scan : ℕ) → (scan ≡ 2 → ⊥) → mostCuts scan ≡ 50
+pub many-cuts : (scan : ℕ) → (scan ≡ 2 → ⊥) → mostCuts scan ≡ 256
 unfolding mostCuts
 many-cuts scan h = rw (exactly w32 2 scan (lit< tt), ne-eqb scan 2 h)
 
@@ -126,9 +126,12 @@ small-if : (b : Bool) (x y n : ℕ) → x < n → y < n → cond b x y < n
 small-if true x y n h k = h
 small-if false x y n h k = k
 
-pub mostCuts-small : (scan : ℕ) → mostCuts scan < 2147483648
+pub mostCuts-most : (scan : ℕ) → mostCuts scan < 257
 unfolding mostCuts
-mostCuts-small scan = small-if (is 2 (int scan)) 1 50 2147483648 (lit< tt) (lit< tt)
+mostCuts-most scan = small-if (is 2 (int scan)) 1 256 257 (lit< tt) (lit< tt)
+
+pub mostCuts-small : (scan : ℕ) → mostCuts scan < 2147483648
+mostCuts-small scan = let h = mostCuts-most scan in omega arith
 
 pub opening-small : (scan cut : ℕ) → opening scan cut < 2147483648
 unfolding opening
@@ -168,9 +171,18 @@ exact n x e =
     (λ h. eqb-true x n (sym (exactly-clear w32 n x h) ∙ e))
     (λ h. let k = exactly-set w32 n x (omega arith) in absurd (let z : _≡_ {A = ℕ} 0 1 = cc in omega arith))
 
-pub counts-is : (before n : ℕ) → counts before n ≡ true → n ≡ before + 1
+pub counts-is : (most before n : ℕ) → counts most before n ≡ true → n ≡ before + 1
 unfolding counts
-counts-is before n e = exact (before + 1) n e
+counts-is most before n e = exact (before + 1) n (both _ _ e .0)
+
+-- where the count is not past the most, only the number decides
+pub counts-within : (most before n : ℕ) → before + 1 ≤ most → counts most before n ≡ is (before + 1) (int n)
+unfolding counts
+counts-within most before n h = rw (le-leb (before + 1) most h) (sym (and-true (is (before + 1) (int n))))
+
+pub counts-most : (most before n : ℕ) → counts most before n ≡ true → before + 1 ≤ most
+unfolding counts
+counts-most most before n e = leb-true (before + 1) most (both (is (before + 1) (int n)) _ e .1)
 
 -- an accepted task has a cut (number 8), an accepted radial header announces a moment (number 19)
 pub some-cut : (scan n : ℕ) → cutNumberOk scan n ≡ true → 1 ≤ n

@@ -23,16 +23,17 @@ within lo hi x = leb lo x && leb x hi
 unfoldable pub notBelowZero : ℤ → Bool
 notBelowZero z = leZ (pos 0) z
 
--- numbers 12 and 13: n is one more than what was counted before it
-unfoldable pub counts : ℕ → ℕ → Bool
-counts before n = is (before + 1) (int n)
+-- numbers 12 and 13: n is one more than what was counted before it, and that is not past the most
+unfoldable pub counts : ℕ → ℕ → ℕ → Bool
+counts most before n = is (before + 1) (int n) && leb (before + 1) most
+
+-- number 12: the most radials that a volume may have, which is how far the sequence goes (document 02, #106)
+abbrev pub mostSequence : ℕ
+mostSequence = 65536
 
 -- number 13: the most radials that a cut may have
 abbrev pub mostRadials : ℕ
 mostRadials = 1000
-
-unfoldable pub countsInCut : ℕ → ℕ → Bool
-countsInCut before n = counts before n && leb (before + 1) mostRadials
 
 -- numbers 3, 4, 15 and 16, by the value: the IEEE single with these bits lies between two whole numbers. A NaN lies in no
 -- range, and minus zero is zero.

@@ -1,5 +1,5 @@
 -- Which radial states are allowed where, and how many cuts a task may have (document 01, "States" and number 8; document 02,
--- #103: type 5 in several layers).
+-- #103: type 5 in several layers, and #106: up to 256 cuts).
 use mathlib.Core.Bool.{Bool, _||_, cond}
 use Prim.Native.Nat.{ℕ}
 use lib.Dec.{eqb, leb, ltb}
@@ -13,9 +13,9 @@ rhi scan = is 2 (int scan) || is 5 (int scan)
 
 -- the most cuts of a task: 1 while scan type is 2
 unfoldable pub mostCuts : ℕ → ℕ
-mostCuts scan = cond (is 2 (int scan)) 1 50
+mostCuts scan = cond (is 2 (int scan)) 1 256
 
--- number 8: cut number 1..50, and 1 while scan type is 2
+-- number 8: cut number 1..256, and 1 while scan type is 2
 unfoldable pub cutNumberOk : ℕ → ℕ → Bool
 cutNumberOk scan n = among (pos 1) (pos (mostCuts scan)) (int n)
 

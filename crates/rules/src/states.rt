@@ -12,7 +12,7 @@ pub fn cut_number_ok(scan: u32, x: u32) -> bool
             _ => false,
         },
         _ => match x {
-            1..=50 => true,
+            1..=256 => true,
             _ => false,
         },
     }

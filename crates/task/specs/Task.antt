@@ -79,7 +79,7 @@ taskRules r =
     ∷ rule 164 6 (among (pos 0) (pos 6) (int (r .«scan_type»)))
     -- start time (table 2-4): not below 0
     ∷ rule 172 7 (notBelowZero (int (r .«start_time»)))
-    -- cut number (table 2-4): 1..50, and 1 while scan type is 2
+    -- cut number (table 2-4): 1..256, and 1 while scan type is 2
     ∷ rule 176 8 (cutNumberOk (r .«scan_type») (r .«cut_number»))
     ∷ []
 

@@ -10,7 +10,10 @@ pub mod Same
 pub mod SameBegun
 pub mod Once
 pub mod Meaning
+pub mod Each
 pub mod Placed
+pub mod Most
 pub mod Sense
+pub mod Long
 pub mod Small
 pub mod Tried

@@ -38,6 +38,7 @@ use Rattle.volume.specs.Accepted.{Begun, BegunOk, Accepted, AcceptedOk, 
 use Rattle.volume.specs.Meaning.{layerStretches, layersStretches, volumeStretches, acceptedStretches, endOf, firstPlace, Accepts}
 use Rattle.volume.specs.InPlace.{taskBlock, cutBlock, ofCut, InPlace, AllInPlace}
 use Rattle.volume.proofs.Accepts.{accepts}
+use Rattle.volume.proofs.Each.{Each, each-closed, each-unclosed}
 use Rattle.volume.proofs.Layers.{endsAt, stretches-end}
 use Rattle.volume.proofs.Tells.{same-number}
 
@@ -115,21 +116,8 @@ module _ (f : List ℕ) where
   abbrev NoneFrom : ℕ → List Stretch → Type 0
   NoneFrom k before = (j : ℕ) → k ≤ j → ofCut j before ≡ 0
 
-  -- each of the rest of a layer of cut k, which stands behind the radials `before`
-  abbrev Each : ℕ → ℕ → ℕ → List VolumeRadial → Type 0
-  Each k before inCut [] = Unit {0}
-  Each k before inCut (b ∷ bs) = RadialOk (taskBlock f) (cutBlock f k) k before inCut b × Each k (suc before) (suc inCut) bs
-
-  each-closed : (k before inCut : ℕ) (l : List VolumeRadial) → LayerOk (taskBlock f) (cutBlock f k) k before inCut l → Each k before inCut l
-  each-closed k before inCut [] ok = tt
-  each-closed k before inCut (b ∷ []) ok = (ok .0, tt)
-  each-closed k before inCut (b ∷ (n ∷ ns)) ok = (ok .0, each-closed k (suc before) (suc inCut) (n ∷ ns) (ok .2))
-
-  each-unclosed : (k before inCut : ℕ) (l : List VolumeRadial) → UnclosedOk (taskBlock f) (cutBlock f k) k before inCut l → Each k before inCut l
-  each-unclosed k before inCut [] ok = tt
-  each-unclosed k before inCut (b ∷ bs) ok = (ok .0, each-unclosed k (suc before) (suc inCut) bs (ok .2))
-
-  layer : (l : List VolumeRadial) (k at : ℕ) (g : List ℕ) (before ss : List Stretch) → Each k (length before) (ofCut k before) l → At f at (run bytesOfRadial l ++ g) → NoneFrom (suc k) before
+  -- the rest of a layer of cut k, which stands behind the radials `before`
+  layer : (l : List VolumeRadial) (k at : ℕ) (g : List ℕ) (before ss : List Stretch) → Each (taskBlock f) (cutBlock f k) k (length before) (ofCut k before) l → At f at (run bytesOfRadial l ++ g) → NoneFrom (suc k) before
       → ((more : List Stretch) → length more ≡ length before + length l → NoneFrom (suc k) more → At f (endOf at l) g → AllInPlace f more ss)
       → AllInPlace f before (layerStretches k at l ++ ss)
   unfolding run
@@ -140,7 +128,7 @@ module _ (f : List ℕ) where
       let x = placed k at b (run bytesOfRadial bs ++ g) before (ok .0) (subst (At f at) (append-assoc (bytesOfRadial b) (run bytesOfRadial bs) g) a) in
       let own : ofCut k (s ∷ before) ≡ suc (ofCut k before) = rw (eq-eqb k k refl) (omega arith) in (
         x .0,
-        layer bs k e g (s ∷ before) ss (subst (λ (n : ℕ). Each k (suc (length before)) n bs) (sym own) (ok .1)) (x .1)
+        layer bs k e g (s ∷ before) ss (subst (λ (n : ℕ). Each (taskBlock f) (cutBlock f k) k (suc (length before)) n bs) (sym own) (ok .1)) (x .1)
             (λ j h. let z = later j h in rw (ne-eqb k j (λ q. omega arith)) (omega arith))
             (λ more n h i. next more (omega arith) h i),
       )
@@ -162,7 +150,7 @@ module _ (f : List ℕ) where
       let later = layersStretches (suc k) (endOf at l) ls ++ ss in
       let own = subst (λ (n : ℕ). LayerOk (taskBlock f) (cutBlock f k) k (length before) n l) (sym (nf k (omega arith))) (subst (λ (x : Cut). LayerOk (taskBlock f) x k (length before) 0 l) (sym (ci .0)) (ok .0)) in
       subst (AllInPlace f before) (sym (append-assoc (layerStretches k at l) (layersStretches (suc k) (endOf at l) ls) ss))
-      (layer l k at (run (run bytesOfRadial) ls ++ g) before later (each-closed k (length before) (ofCut k before) l own)
+      (layer l k at (run (run bytesOfRadial) ls ++ g) before later (each-closed (taskBlock f) (cutBlock f k) k (length before) (ofCut k before) l own)
       (subst (At f at) (append-assoc (run bytesOfRadial l) (run (run bytesOfRadial) ls) g) a) (λ j h. nf j (omega arith))
       (λ more n h i. layers ls cs (suc k) (endOf at l) g more ss (ci .1) (subst (λ (x : ℕ). LayersOk (taskBlock f) (suc k) x cs ls) (sym n) (ok .1)) i h
       (λ m n′ h′ i′. next m (omega arith) (λ j q. h′ j (omega arith)) i′)))
@@ -180,12 +168,12 @@ module _ (f : List ℕ) where
   cuts-split (c ∷ cs) ds k ci = let x = cuts-split cs ds (suc k) (ci .1) in ((ci .0, x .0), subst (λ (n : ℕ). CutsIn n ds) (omega arith) (x .1))
 
   -- the blocks before the radials, as they stand in the file
-  record Front (v : Volume) (rest : List ℕ) : Type 0 where
-    task : taskBlock f ≡ v .task
+  pub record Front (v : Volume) (rest : List ℕ) : Type 0 where
+    pub task : taskBlock f ≡ v .task
     cuts : CutsIn 1 (v .cuts)
     radials : At f (firstPlace v) (run (run bytesOfRadial) (v .layers) ++ rest)
 
-  front : (v : Volume) (rest : List ℕ) → Headed v → bytesOfVolume v ++ rest ≡ f → Front v rest
+  pub front : (v : Volume) (rest : List ℕ) → Headed v → bytesOfVolume v ++ rest ≡ f → Front v rest
   unfolding taskAt
   front v rest h e =
       let g4 = run (run bytesOfRadial) (v .layers) ++ rest in
@@ -220,7 +208,7 @@ module _ (f : List ℕ) where
       (layers (b .closed) (b .early) 1 at (run bytesOfRadial (b .now) ++ rest) [] (layerStretches k (endsAt at (b .closed)) (b .now)) (c .0)
       (subst (λ (t : Task). LayersOk t 1 0 (b .early) (b .closed)) (sym (x .task)) (ok .closed)) a (λ j h. refl)
       (λ more m h i. subst (AllInPlace f more) (append-nil (layerStretches k (endsAt at (b .closed)) (b .now)))
-      (layer (b .now) k (endsAt at (b .closed)) rest more [] (each-unclosed k (length more) (ofCut k more) (b .now) (unclosed b ok k more (x .task) own (omega arith) (omega arith) (h k (omega arith)))) i (λ j q. h j (omega arith)) (λ more m h i. tt))))
+      (layer (b .now) k (endsAt at (b .closed)) rest more [] (each-unclosed (taskBlock f) (cutBlock f k) k (length more) (ofCut k more) (b .now) (unclosed b ok k more (x .task) own (omega arith) (omega arith) (h k (omega arith)))) i (λ j q. h j (omega arith)) (λ more m h i. tt))))
     where
       unclosed : (b : Begun) → BegunOk b → (k : ℕ) (more : List Stretch) → taskBlock f ≡ b .task → cutBlock f k ≡ b .cut → suc (length (b .closed)) ≡ k → radialsIn (b .closed) ≡ length more → ofCut k more ≡ 0
           → UnclosedOk (taskBlock f) (cutBlock f k) k (length more) (ofCut k more) (b .now)

@@ -1,4 +1,4 @@
--- That the definition says what document 01 says in other words. Assumes nothing.
+-- That the definition says what documents 01 and 02 say in other words. Assumes nothing.
 use Prim.Native.Nat.{ℕ, _+_, _-_, _%_, _≤_}
 use native.Mathlib.Omega.{arith}
 use mathlib.Core.Path.{_≡_, sym, _∙_}
@@ -24,6 +24,7 @@ use Rattle.task.specs.declared.Task.{Task}
 use Rattle.volume.specs.Volume.{VolumeMoment, VolumeRadial, tiled, typesOf, MomentsOk, RadialOk, LayerOk}
 use Rattle.volume.specs.Sense.{Unlike, Differ, InMask, Sense}
 use Rattle.radial.proofs.Header.{header}
+use Rattle.volume.proofs.Most.{volume-numbered, volume-most, begun-before}
 
 -- the last moment leaves none
 last-fills : (todo left bin n : ℕ) → todo ≡ 1 → lengthOk todo left bin n ≡ true → 32 + n ≡ left
@@ -97,4 +98,7 @@ sense =
       differ = λ t c k before inCut b ok. differ c (b .header) (b .moments) [] (ok .moments);
       masked = λ t c k before inCut b ok. masked c (b .header) (b .moments) [] (ok .moments);
       two = two-radials;
+      numbered = volume-numbered;
+      most = volume-most;
+      before = begun-before;
     }

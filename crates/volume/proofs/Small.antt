@@ -11,7 +11,7 @@ use Rattle.le.proofs.Laws.{length-part}
 use Rattle.rules.specs.Check.{Hold, also, verdict}
 use Rattle.rules.specs.declared.check.Check.the-variants.{Fine}
 use Rattle.rules.proofs.Judged.{all-hold}
-use Rattle.rules.specs.Ranges.{among, within, notBelowZero, counts, countsInCut, between, angle}
+use Rattle.rules.specs.Ranges.{among, within, notBelowZero, counts, between, angle}
 use Rattle.rules.specs.States.{rhi, mostCuts, cutNumberOk, opening, closing, stateOk}
 use Rattle.rules.specs.Masks.{bit, withBit, typeOk, binLengthOk}
 use Rattle.rules.specs.Tiling.{momentNumberOk, tiles, lengthOk}
@@ -145,7 +145,7 @@ pub record Radials : Type 0 where
   pub closes-last : RadialOk (small-task 2) (small-cut 1) 2 3 1 (small-whole 4 4 2 2 1)
 
 pub small-radials-ok : Radials
-unfolding small-task small-cut small-radial small-moment also among notBelowZero counts countsInCut angle between le ofInt ofBits stateOk opening closing rhi momentNumberOk typeOk bit within withBit binLengthOk lengthOk tiles
+unfolding small-task small-cut small-radial small-moment also among notBelowZero counts angle between le ofInt ofBits stateOk opening closing rhi momentNumberOk typeOk bit within withBit binLengthOk lengthOk tiles
 small-radials-ok =
     record {
       first = radial-ok 1 2 1 0 0 3 1 1 2 (radial-fits 3 1 1 1 (lit< tt) (lit< tt) (lit< tt) (lit< tt)) (moment-fits 2 (lit< tt)) refl refl;

@@ -86,14 +86,14 @@ pub first-radials : stretches (take 871 (bytesOfVolume small)) ≡ record { star
 unfolding last-due small-whole small-radial small-moment radialBytes momentBytes run bytes part
 first-radials = first-told .radials
 
--- 51 cuts: refused 8 at 336
-first-broken : First (taskRules (taskAt (taskBytes (small-task 51)) 0)) 8 176
+-- 257 cuts: refused 8 at 336
+first-broken : First (taskRules (taskAt (taskBytes (small-task 257)) 0)) 8 176
 unfolding small-task taskAt taskOf taskBytes run le bytes part among notBelowZero cutNumberOk mostCuts
 first-broken = behind _ _ refl (behind _ _ refl (behind _ _ refl (here _ _ refl)))
 
-pub cuts-refused : told (genericBytes small-generic ++ siteBytes small-site ++ taskBytes (small-task 51)) ≡ 2 ∷ 8 ∷ 336 ∷ []
+pub cuts-refused : told (genericBytes small-generic ++ siteBytes small-site ++ taskBytes (small-task 257)) ≡ 2 ∷ 8 ∷ 336 ∷ []
 unfolding small small-generic small-site small-task genericBytes siteBytes taskBytes run bytes part
 cuts-refused =
-    tells (site small-generic small-site) (taskBytes (small-task 51)) (2 ∷ 8 ∷ 336 ∷ []) (small-is .headed .generic, small-is .headed .site)
-    (broken (site small-generic small-site) (taskBytes (small-task 51)) 8 176 (omega arith) first-broken)
+    tells (site small-generic small-site) (taskBytes (small-task 257)) (2 ∷ 8 ∷ 336 ∷ []) (small-is .headed .generic, small-is .headed .site)
+    (broken (site small-generic small-site) (taskBytes (small-task 257)) 8 176 (omega arith) first-broken)
     .verdict

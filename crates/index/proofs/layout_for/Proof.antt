@@ -4,7 +4,7 @@ use native.Mathlib.Omega.{arith}
 use borrow.Author.Needs.{needs}
 use borrow.Author.Tests.{le-leb, lt-leb}
 use Rattle.index.specs.Making.{sizeFor, layoutFor}
-use Rattle.index.proofs.Sections.{length-start}
+use Rattle.index.proofs.Starts.{length-start}
 use Rattle.index.proofs.layout_for.Statement.{statement}
 use Rattle.index.proofs.layout_for.Tie as tie
 

@@ -10,7 +10,7 @@ use Rattle.le.proofs.Laws.{length-bytes, bytes-low}
 use Rattle.reading.specs.Reading.{stretches}
 use Rattle.index.specs.Index.{startOf, indexFor}
 use Rattle.index.specs.Making.{secondAt}
-use Rattle.index.proofs.Sections.{length-start, length-index, start-here, radials-here}
+use Rattle.index.proofs.Sections.{length-index, start-here, radials-here}
 use Rattle.index.proofs.Filled.{Filled, filled-none, filled-low, filled-high, filled-all, filled-anew, filled-over}
 use Rattle.index.proofs.Entries.{entries, Made, made, AtCount, at-count, AtPlace, at-place, at-end}
 use Rattle.index.proofs.making.put.Statement.{statement}
@@ -25,27 +25,22 @@ abbrev μ-loop : tie.MeasureT-loop
 
 -- ---- the counts with which the sections start
 
-slice-aggregate-put : tie.Need-slice-aggregate-put Inv-loop μ-loop
-slice-aggregate-put c = sym (ap length (c .before .start .ensures) ∙ length-start (c .before .before .before .before .before .args .cuts))
-
 add-second : tie.Need-add-second Inv-loop μ-loop
 add-second c =
-    let s = c .before .before .before .before .before .before .before .before .before .before .before .before .before .before in
+    let s = c .before .before .before .before .before .before .before .before .before .before .before .before .before in
     let l = length-index (s .args .cuts) (stretches (s .args .file .now)) in
     omega (arith, s .pre .1 .1, s .good, c .before .before .before .before .before .second-at .ensures)
 
-heads : (c : tie.After-put-u32 Inv-loop μ-loop) → let a = c .before .before .before .before .before .before .before .before .before .before .before .before .args in
+heads : (c : tie.After-put-u32 Inv-loop μ-loop) → let a = c .before .before .before .before .before .before .before .before .before .before .before .args in
     Filled (indexFor (a .cuts) (stretches (a .file .now))) (a .room .now) (secondAt (a .cuts)) (0 + length (startOf (a .cuts))) (secondAt (a .cuts) + 4) (c .put-u32 .last .0)
 heads c =
-    let s = c .before .before .before .before .before .before .before .before .before .before .before .before in
-    let p = c .before .before .before .before .before .before .put in
+    let s = c .before .before .before .before .before .before .before .before .before .before .before in
+    let p = c .before .before .before .before .before .before .before .put-start in
     let cuts = s .args .cuts in
     let ss = stretches (s .args .file .now) in
     let l = length-index cuts ss in
     let none = filled-none (indexFor cuts ss) (s .args .room .now) (secondAt cuts) (s .pre .1 .1) (omega arith) in
-    let one =
-    filled-low none (length (startOf cuts)) (startOf cuts) refl (rw (c .before .before .before .before .before .before .before .before .start .ensures) at (p .ensures))
-    (start-here cuts ss) (omega arith) in
+    let one = filled-low none (length (startOf cuts)) (startOf cuts) refl (p .ensures) (start-here cuts ss) (omega arith) in
     filled-high one 4 (bytes 4 (length ss)) (length-bytes 4 (length ss))
     (c .put-u32 .ensures
     ∙ ap₂ (stored 4 (p .last .0)) (c .before .before .before .second-at .ensures)
@@ -54,14 +49,13 @@ heads c =
 
 loop-holds : tie.Need-loop-holds Inv-loop μ-loop
 loop-holds c =
-    let s = c .before .before .before .before .before .before .before .before .before .before .before .before .before .before .before in
+    let s = c .before .before .before .before .before .before .before .before .before .before .before .before .before .before in
     let cuts = s .args .cuts in
     let f = s .args .file .now in
-    let t = length-start cuts in
     let l : length (indexFor cuts (stretches f)) < 2 ^ 64 = omega (arith, s .pre .1 .1, s .good) in
     let h = filled-anew (heads (c .before .before .before)) in
-    rw (c .before .before .before .before .before .before .second-at .ensures, t, c .first-radial .ensures, s .pre .1 .0)
-    (rw t at (made f cuts (s .pre .0) l), rw (zero-add (length (startOf cuts)), t) at h)
+    rw (c .before .before .before .before .before .before .second-at .ensures, c .before .before .before .before .before .before .before .start-length .ensures, c .first-radial .ensures, s .pre .1 .0)
+    (made f cuts (s .pre .0) l, rw (zero-add (length (startOf cuts))) at h)
 
 -- ---- a cut's count
 
@@ -98,7 +92,7 @@ add-count : tie.Need-add-count Inv-loop μ-loop
 add-count c = let b = place-here (c .before .before .before .before) .count-fits in omega arith
 
 behind-requires : tie.Need-behind-requires Inv-loop μ-loop
-behind-requires c κs = let b = place-here (c .before .before .before .before) .header in omega (arith, c .before .before .before .before .before .before .before .before .before .before .before .before .before .before .before .before .before .before .before .before .before .before .before .before .good)
+behind-requires c κs = let b = place-here (c .before .before .before .before) .header in omega (arith, c .before .before .before .before .before .before .before .before .before .before .before .before .before .before .before .before .before .before .before .before .before .before .before .good)
 
 sub-left : tie.Need-sub-left Inv-loop μ-loop
 sub-left c = let b = place-here (c .before .before .before .before .before) .some in omega arith
@@ -126,6 +120,6 @@ returns c =
 pub put-spec : {M : Type 1} → statement M
 put-spec =
     tie.close
-    (tie.spec Inv-loop μ-loop (λ c κs. search needs) slice-aggregate-put (λ c κs. search needs) (λ c κs. search needs) (λ c κs. search needs) (λ c κs. search needs) add-second (λ c κs. search needs) loop-holds
+    (tie.spec Inv-loop μ-loop (λ c κs. search needs) (λ c κs. search needs) (λ c κs. search needs) (λ c κs. search needs) (λ c κs. search needs) add-second (λ c κs. search needs) loop-holds
     (λ c κs. search needs) (λ c κs. search needs) (λ c. search needs) (λ c κs. search needs) (λ c κs. search needs) add-first add-cut loop-less loop-again
     (λ c. search needs) (λ c κs. search needs) add-second-2 add-count behind-requires sub-left loop-less-2 loop-again-2 (λ c. search needs) same-length returns)

@@ -5,6 +5,7 @@ use native.Mathlib.Omega.{arith}
 use mathlib.Core.List.{List}
 use mathlib.Core.Path.{_≡_, sym, ap, _∙_}
 use borrow.Author.Needs.{needs}
+use borrow.Author.Tests.{not-true, not-false}
 use lib.ListN.{length, getD}
 use Rattle.le.specs.Le.{le, Bytes}
 use Rattle.le.proofs.Laws.{part-all}
@@ -14,7 +15,8 @@ use Rattle.index.specs.Making.{secondAt}
 use Rattle.index.proofs.Agree.{Agree, agree-none, agree-low, agree-high, agree-all, stands-here, differs-here}
 use Rattle.index.proofs.Entries.{entries, Made, made, AtCount, at-count, AtPlace, at-place, at-end}
 use Rattle.index.proofs.Same.{is-same}
-use Rattle.index.proofs.Sections.{length-start, length-index, start-stands, start-differs, radials-here}
+use Rattle.index.proofs.Starts.{length-start}
+use Rattle.index.proofs.Sections.{length-index, start-stands, start-differs, radials-here}
 use Rattle.index.proofs.making.stands.Statement.{statement}
 use Rattle.index.proofs.making.stands.Tie as tie
 
@@ -30,15 +32,15 @@ abbrev μ-loop : tie.MeasureT-loop
 
 -- ---- the counts with which the sections start
 
-shared-slice-read-if1 : tie.Need-shared-slice-read-if1 Inv-loop μ-loop
-shared-slice-read-if1 c =
-    let s = c .before .before .before .before in
-    omega (arith, s .pre .1 .1, length-index (s .args .cuts) (stretches (s .args .file .now)))
+stands-requires : tie.Need-start-stands-requires Inv-loop μ-loop
+stands-requires c κs =
+    let s = c .before .before in
+    omega (arith, s .pre .1 .1, length-index (s .args .cuts) (stretches (s .args .file .now)), length-start (s .args .cuts))
 
 returns : tie.Need-returns Inv-loop μ-loop
 returns c =
-    let a = c .before .before .before .before .before .args in
-    sym (start-differs (a .cuts) (stretches (a .file .now)) (a .index .now) (λ e. c .if1 .taken (e ∙ ap (λ (l : List ℕ). getD l 0 0) (sym (c .before .before .start .ensures)))))
+    let a = c .before .before .before .before .args in
+    sym (start-differs (a .cuts) (stretches (a .file .now)) (a .index .now) (sym (c .before .start-stands .ensures) ∙ not-true (c .before .start-stands .result) (c .if1 .taken)))
 
 -- what is read as the number of radials, and what it is compared with
 radials-at : (c : tie.After-word Inv-loop μ-loop) → let a = c .before .before .before .before .before .before .before .before .args in
@@ -69,23 +71,16 @@ loop-holds c =
     let f = s .args .file .now in
     let x = s .args .index .now in
     let ss = stretches f in
-    let t = length-start cuts in
-    let q = c .before .before .before .before .second-at .ensures in
     let l : length (indexFor cuts ss) < 2 ^ 64 = omega (arith, s .pre .1 .1, s .good) in
     let bs : Bytes x = record { byte = λ i. c .before .before .before .before .before .before .before .before .shared-slice-known2 .given i .fits } in
-    let start =
-    start-stands cuts ss x
-    (c .before .before .before .before .before .if1 .left ∙ ap (λ (l : List ℕ). getD l 0 0) (c .before .before .before .before .before .before .before .start .ensures)) in
+    let start = start-stands cuts ss x (sym (c .before .before .before .before .before .before .before .start-stands .ensures) ∙ not-false (c .before .before .before .before .before .before .before .start-stands .result) (c .before .before .before .before .before .before .if1 .left)) in
     let one = agree-low (indexFor cuts ss) x (secondAt cuts) 0 (secondAt cuts) (length (startOf cuts)) (agree-none (indexFor cuts ss) x (secondAt cuts)) start in
     let radials =
     stands-here (indexFor cuts ss) x 4 (length ss) (secondAt cuts) (radials-here cuts ss) bs
     (sym (radials-at (c .before .before)) ∙ c .before .if2 .left ∙ radials-are (c .before .before)) in
-    let two = agree-high (indexFor cuts ss) x (secondAt cuts) (0 + length (startOf cuts)) (secondAt cuts) 4 one radials in (
-      rw (q, t, c .first-radial .ensures, s .pre .1 .0) (rw t at (made f cuts (s .pre .0) l)),
-      rw (q, t) (rw (zero-add (length (startOf cuts)), t) at two),
-      bs,
-      s .pre .1 .1,
-    )
+    let two = agree-high (indexFor cuts ss) x (secondAt cuts) (0 + length (startOf cuts)) (secondAt cuts) 4 one radials in
+    rw (c .before .before .before .before .second-at .ensures, c .before .before .before .before .before .start-length .ensures, c .first-radial .ensures, s .pre .1 .0)
+    (made f cuts (s .pre .0) l, rw (zero-add (length (startOf cuts))) at two, bs, s .pre .1 .1)
 
 -- ---- a cut's count
 
@@ -162,6 +157,6 @@ returns-5 c =
 pub stands-spec : {M : Type 1} → statement M
 stands-spec =
     tie.close
-    (tie.spec Inv-loop μ-loop (λ c κs. search needs) shared-slice-read-if1 (λ c. search needs) returns (λ c κs. search needs) (λ c κs. search needs) (λ c κs. search needs) returns-2 add-second (λ c κs. search needs) loop-holds
+    (tie.spec Inv-loop μ-loop stands-requires returns (λ c κs. search needs) (λ c κs. search needs) (λ c κs. search needs) (λ c κs. search needs) returns-2 add-second (λ c κs. search needs) loop-holds
     (λ c κs. search needs) (λ c κs. search needs) (λ c. search needs) (λ c κs. search needs) (λ c κs. search needs) returns-3 add-first add-cut loop-less loop-again
     (λ c. search needs) (λ c κs. search needs) returns-4 add-second-2 add-count behind-requires sub-left loop-less-2 loop-again-2 (λ c. search needs) returns-5)

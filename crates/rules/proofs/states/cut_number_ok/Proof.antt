@@ -16,15 +16,15 @@ returns-2 c = rw (one-cut _ (c .before .match .keys1), exactly w32 1 _ (lit< tt)
 
 returns-3 : tie.Need-returns-3
 unfolding cutNumberOk
-returns-3 c = rw (many-cuts _ (c .before .before .match .rest .1)) (inside w32 1 50 _ (lit< tt) (c .before .if1 .left) (c .if2 .taken))
+returns-3 c = rw (many-cuts _ (c .before .before .match .rest .1)) (inside w32 1 256 _ (lit< tt) (c .before .if1 .left) (c .if2 .taken))
 
 returns-4 : tie.Need-returns-4
 unfolding cutNumberOk
-returns-4 c = rw (many-cuts _ (c .before .match .rest .1)) (below w32 1 50 _ (lit< tt) (c .if1 .taken))
+returns-4 c = rw (many-cuts _ (c .before .match .rest .1)) (below w32 1 256 _ (lit< tt) (c .if1 .taken))
 
 returns-5 : tie.Need-returns-5
 unfolding cutNumberOk
-returns-5 c = rw (many-cuts _ (c .before .before .match .rest .1)) (above w32 1 50 _ (lit< tt) (c .if2 .left))
+returns-5 c = rw (many-cuts _ (c .before .before .match .rest .1)) (above w32 1 256 _ (lit< tt) (c .if2 .left))
 
 pub cut-number-ok-spec : {M : Type 1} → statement M
 cut-number-ok-spec = tie.close (tie.spec returns returns-2 returns-3 returns-4 returns-5)

@@ -1,0 +1,118 @@
+-- Up to 256 cuts, by citing the rules, the grammar of volumes and the index. Assumes nothing.
+use Prim.Native.Nat.{ℕ, _+_, _<_, _≤_}
+use native.Mathlib.Omega.{arith}
+use mathlib.Core.Bool.{true, false}
+use mathlib.Core.List.{List, [], _∷_, append-nil, map}
+use mathlib.Core.Path.{_≡_, refl, sym, ap, ap₂, subst, _∙_}
+use lib.Dec.{lit<}
+use lib.ListN.{length}
+use Rattle.le.specs.Le.{Bytes, le, int}
+use Rattle.le.proofs.Laws.{le-part}
+use Rattle.le.proofs.Tests.{fails}
+use Rattle.rules.specs.Ranges.{is, counts, mostSequence}
+use Rattle.rules.proofs.Allowed.{count-allowed}
+use Rattle.rules.proofs.Numbers.{counts-within}
+use Rattle.task.specs.declared.Task.{Task}
+use Rattle.task.specs.Task.{taskAt, taskOf}
+use Rattle.reading.specs.declared.Stretch.{Stretch}
+use Rattle.reading.specs.Reading.{told, stop, stretches}
+use Rattle.volume.specs.Accepted.{Begun, BegunOk, dueRadial}
+use Rattle.volume.specs.InPlace.{taskBlock}
+use Rattle.volume.specs.Meaning.{volumeStretches, Holds}
+use Rattle.volume.specs.Volume.{VolumeRadial, Volume, IsVolume, bytesOfVolume}
+use Rattle.volume.proofs.Meaning.{means}
+use Rattle.volume.proofs.Placed.{front}
+use Rattle.volume.proofs.Sense.{sense}
+use Rattle.volume.proofs.Tells.{same-number}
+use Rattle.index.specs.Answer.{rightFor}
+use Rattle.index.specs.Forms.{Contents, Fit, oldCuts, saidBy, contentsFor, contentsOf}
+use Rattle.index.specs.Index.{oldStart, newStart, indexBy, indexOf, oldIndexOf, newIndexOf}
+use Rattle.index.proofs.Forms.{first-old, first-new, few-cuts, many-cuts, says-back, other-form}
+use Rattle.index.proofs.Same.{right-only}
+use Rattle.index.proofs.Walked.{cuts-read}
+use Rattle.demands.specs.Cuts.{Whole, cutsOf, Forms, contentsOfVolume, Cuts}
+use Rattle.demands.proofs.Contents.{counts-of, fit}
+
+-- ---- a complete file and its volume
+
+record Of (v : Volume) (f : List ℕ) : Type 0 where
+  ok : IsVolume v
+  cuts : stop f .plan .cuts ≡ cutsOf f
+  layers : cutsOf f ≡ length (v .layers)
+  radials : stretches f ≡ volumeStretches v
+
+cuts-in : (f : List ℕ) → told f ≡ 0 ∷ [] → stop f .plan .cuts ≡ cutsOf f
+unfolding taskAt taskOf
+cuts-in f e = cuts-read f e ∙ sym (le-part 4 256 f 160 176 (omega arith))
+
+of-volume : (v : Volume) → IsVolume v → Of v (bytesOfVolume v)
+of-volume v ok =
+    let read = means .reads v ok in
+    let task = front (bytesOfVolume v) v [] (ok .headed) (append-nil (bytesOfVolume v)) .task in
+    let number = ap (λ (t : Task). t .«cut_number») task in
+    let same = same-number (v .task) 1 0 (v .cuts) (v .layers) (ok .layers) in
+    let headed = ok .headed .number in
+    record { ok = ok; cuts = cuts-in (bytesOfVolume v) (read .complete); layers = omega arith; radials = read .radials }
+
+held : (f : List ℕ) → Whole f → Holds f
+held f w = means .holds f (w .bytes) (w .complete)
+
+of-file : (f : List ℕ) (w : Whole f) → Of (held f w .volume) f
+of-file f w = let h = held f w in subst (Of (h .volume)) (h .bytes) (of-volume (h .volume) (h .is))
+
+-- ---- its index
+
+module _ (f : List ℕ) {v : Volume} (o : Of v f) where
+  fits : Fit (cutsOf f) (stretches f)
+  fits = rw (o .layers, o .radials) (fit v (o .ok))
+
+  says : saidBy (indexOf f) ≡ contentsOf f
+  says = says-back (stop f .plan .cuts) (stretches f) (rw (o .cuts) fits)
+
+  few : cutsOf f ≤ 50 → indexOf f ≡ oldIndexOf f
+  few h = few-cuts (stop f .plan .cuts) (stretches f) (rw (o .cuts) h)
+
+  many : 50 < cutsOf f → indexOf f ≡ newIndexOf f
+  many h = many-cuts (stop f .plan .cuts) (stretches f) (rw (o .cuts) h)
+
+  old-first : cutsOf f ≤ 50 → oldCuts (oldIndexOf f) ≡ cutsOf f
+  old-first h = let e = o .cuts in first-old (stop f .plan .cuts) (stretches f) (omega arith) ∙ e
+
+  forms : Forms f
+  forms =
+      record {
+        old = λ h. (few h, ap oldCuts (few h) ∙ old-first h);
+        new = λ h. (many h, ap oldCuts (many h) ∙ first-new (stop f .plan .cuts) (stretches f));
+        new-wrong = λ h. fails (rightFor f (newIndexOf f)) (λ e. other-form (stop f .plan .cuts) (stretches f) (sym (few h) ∙ right-only f (newIndexOf f) e .1));
+        old-wrong = λ h. fails (rightFor f (oldIndexOf f)) (λ e. other-form (stop f .plan .cuts) (stretches f) (sym (right-only f (oldIndexOf f) e .1) ∙ many h));
+        fits = fits;
+        says = says;
+      }
+
+contents : (v : Volume) → IsVolume v → contentsOf (bytesOfVolume v) ≡ contentsOfVolume v
+contents v ok =
+    let o = of-volume v ok in
+    ap₂ contentsFor (o .cuts ∙ o .layers) (o .radials)
+    ∙ ap (λ (ns : List ℕ). record { cuts = length (v .layers); counts = ns; places = map (λ (s : Stretch). s .start) (volumeStretches v) }) (counts-of v)
+
+apart : (f g : List ℕ) → Whole f → Whole g → cutsOf f ≤ 50 → oldIndexOf f ≡ newIndexOf g → ⊥
+apart f g w u h e =
+    let o = of-file f w in
+    let none : cutsOf f ≡ 0 = sym (old-first f o h) ∙ ap oldCuts e ∙ first-new (stop g .plan .cuts) (stretches g) in
+    let some = fits f o .some in
+    omega arith
+
+as-before : (b : Begun) → BegunOk b → b .task .«cut_number» ≤ 65 → (n : ℕ) → counts mostSequence (dueRadial b .before) n ≡ is (dueRadial b .before + 1) (int n)
+as-before b ok h n = let k = sense .before b ok in counts-within mostSequence (dueRadial b .before) n (omega arith)
+
+pub many-cuts-hold : Cuts
+many-cuts-hold =
+    record {
+      sequence = λ before n. count-allowed mostSequence before n (lit< tt);
+      twelve = λ r d. refl;
+      as-before = as-before;
+      forms = λ f w. forms f (of-file f w);
+      volumes = contents;
+      apart = apart;
+      differ = λ f g w u e. sym (says f (of-file f w)) ∙ ap saidBy e ∙ says g (of-file g u);
+    }
