@@ -15,8 +15,12 @@ the program. For each volume:
     index LENGTH BYTES, whether it is right, whether it is with one byte changed
 
 M says which moments each radial has: 1 one of one-byte gates, 2 one of two-byte gates, 3 both.
-A room is filled with A5 before anything is written, and its checksum covers all of it. A line
-for each refusal: what is tried, the answer, then, before and after it, the room's checksum and
+A room is filled with A5 before anything is written, and its checksum covers all of it.
+
+Of a volume of many cuts (document 02, #106) the index by its length, its first five bytes, its
+checksum and whether it is right, and the same index in the other form by its checksum and
+whether it is right. Of the longest volume, which is built in no room, the bytes and the whole
+radials up to a radial, and whether the volume is over. A line for each refusal: what is tried, the answer, then, before and after it, the room's checksum and
 the state's count of bytes.
 """
 import sys
@@ -38,9 +42,9 @@ def checksum(room):
 
 
 def radial(moments, sequence):
-    """A radial, with its sequence number in the last gate of each of its moments."""
-    narrow = volumes.moment(2, [0, 1, 66, sequence])
-    wide = volumes.moment(4, volumes.words(0, 261, 66, 512 + sequence))
+    """A radial, with its sequence number's lowest byte in the last gate of each of its moments."""
+    narrow = volumes.moment(2, [0, 1, 66, sequence % 256])
+    wide = volumes.moment(4, volumes.words(0, 261, 66, 512 + sequence % 256))
     return volumes.radial(*{1: [narrow], 2: [wide], 3: [narrow, wide]}[moments])
 
 
@@ -77,6 +81,38 @@ def print_volume(scan_type, moments, counts, size=2500):
           f'{yes(ref.index_right(data, changed))}')
 
 
+def print_many(count):
+    """Document 02, #106: two radials in each of so many cuts."""
+    data = volumes.build(spec(0, 1, [2] * count))
+    r = ref.read(data)
+    print(f'cuts {count}: {told(r.verdict)} {r.bytes_read} {len(r.radials)}')
+    print(f'room {checksum(room_of(118000, data))}')
+    index = ref.index(data)
+    old, new = bytes([count % 256]), ref.new_start(count)
+    own, other = (old, new) if count <= 50 else (new, old)
+    assert index.startswith(own)
+    changed = other + index[len(own):]
+    print(f'index {len(index)} {index[:5].hex()}', *(
+        f'{checksum(x)} {yes(ref.index_right(data, x))}' for x in (index, changed)))
+
+
+def print_longest():
+    """Document 02, #106: a sequence of 65,536 is the last."""
+    data = volumes.build(spec(0, 1, [256] * 256))
+    places = [r.place for r in ref.read(data).radials]
+    longer = volumes.build(spec(0, 1, [256] * 255 + [257]))
+
+    def show(label, data):
+        r = ref.read(data)
+        refusal = told(r.verdict) + ' ' if r.verdict[0] == 'refused' else ''
+        print(f'{label}: {refusal}{r.bytes_read} {len(r.radials)} {yes(r.verdict == "complete")}')
+
+    show('65535 radials', data[:places[-1]])
+    show('radial 65536, closing', data)
+    show('radial 65536', longer[:len(data)])
+    show('12, radial 65537', longer)
+
+
 def print_put(label, written, room, kind, block):
     before = checksum(room)
     answer = ref.write(written, room, kind, block)
@@ -108,11 +144,11 @@ def print_refusals():
     put('25, a radial after the end', 1000, 872, 'radial', opening)
     put('34, a radial before all else', 1000, 0, 'radial', opening)
     many = spec(0, 1, [2])
-    many['task']['cut number'] = 51
+    many['task']['cut number'] = 257
     task = volumes.build(many)[160:416]
-    put('34 ahead of 8, 51 cuts before all else', 1000, 0, 'task', task)
-    put('8, 51 cuts', 1000, 160, 'task', task)
-    put('8 ahead of 33, 51 cuts in a room of 160 bytes', 160, 160, 'task', task)
+    put('34 ahead of 8, 257 cuts before all else', 1000, 0, 'task', task)
+    put('8, 257 cuts', 1000, 160, 'task', task)
+    put('8 ahead of 33, 257 cuts in a room of 160 bytes', 160, 160, 'task', task)
     print_layers()
     put('35, three bytes of four', 1000, 768, 'data', b'\5\6\7')
     put('33, a room of 735 bytes', 735, 672, 'radial', opening)
@@ -140,6 +176,9 @@ def main():
     for scan_type, moments in ((0, 3), (1, 1), (3, 2), (4, 3), (6, 1)):
         print_volume(scan_type, moments, [3, 3, 3])
     print_volume(5, 1, [3] * 6, 4000)                   # document 02, #103
+    for count in (50, 51, 120, 255, 256):               # document 02, #106
+        print_many(count)
+    print_longest()
     print_refusals()
 
 

@@ -1,5 +1,6 @@
 // Writes volumes of several shapes, one block at a time, and their indexes; then drives each refusal of the writer and
 // of the index once (document 01, "Writing" and "The house index").
+mod many;
 mod records;
 mod refusals;
 mod telling;
@@ -123,5 +124,6 @@ fn main() {
     three_cuts(4, 3);
     three_cuts(6, 1);
     six_layers(1);
+    many::run();
     refusals::run();
 }

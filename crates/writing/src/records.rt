@@ -48,9 +48,9 @@ pub(crate) fn cut() -> Cut {
 pub(crate) struct Facts {
     pub(crate) moments: u8,
     pub(crate) state: u8,
-    pub(crate) sequence: u8,
-    pub(crate) number: u8,
-    pub(crate) cut: u8,
+    pub(crate) sequence: u32,
+    pub(crate) number: u32,
+    pub(crate) cut: u32,
 }
 
 // The bytes of a radial's moments.
@@ -73,9 +73,9 @@ fn moment_number(moments: u8) -> u32 {
 pub(crate) fn radial(f: Facts) -> Radial {
     let mut r = Radial::read(b"", 0);
     r.state = f.state as u32;
-    r.sequence = f.sequence as u32;
-    r.radial_number = f.number as u32;
-    r.elevation_number = f.cut as u32;
+    r.sequence = f.sequence;
+    r.radial_number = f.number;
+    r.elevation_number = f.cut;
     r.azimuth = 0x3f00_0000;
     r.elevation = 0x3fc0_0000;
     r.seconds = 1445000001;

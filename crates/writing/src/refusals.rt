@@ -20,7 +20,7 @@ use radial::Radial;
 use walk::due::Walk;
 
 // A radial with one moment of one-byte gates.
-fn narrow(state: u8, sequence: u8, number: u8, cut: u8) -> Facts {
+fn narrow(state: u8, sequence: u32, number: u32, cut: u32) -> Facts {
     Facts {
         moments: 1,
         state,
@@ -70,25 +70,25 @@ fn try_task(label: &[u8], w: Walk, room: &mut [u8], scan_type: u32, cuts: u32) {
     print_put(label, w, before, p, room);
 }
 
-fn fifty_one_cuts() {
+fn too_many_cuts() {
     let mut room = [0xa5u8; 1000];
     try_task(
-        b"34 ahead of 8, 51 cuts before all else",
+        b"34 ahead of 8, 257 cuts before all else",
         Walk::begin(),
         &mut room,
         0,
-        51,
+        257,
     );
     let w = put_start(&mut room);
-    try_task(b"8, 51 cuts", w, &mut room, 0, 51);
+    try_task(b"8, 257 cuts", w, &mut room, 0, 257);
     let mut short = [0xa5u8; 160];
     let v = put_start(&mut short);
     try_task(
-        b"8 ahead of 33, 51 cuts in a room of 160 bytes",
+        b"8 ahead of 33, 257 cuts in a room of 160 bytes",
         v,
         &mut short,
         0,
-        51,
+        257,
     );
 }
 
@@ -180,7 +180,7 @@ fn index_refusals() {
 pub(crate) fn run() {
     after_the_end();
     another_kind();
-    fifty_one_cuts();
+    too_many_cuts();
     layers();
     short_data();
     short_room();

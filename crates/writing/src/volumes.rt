@@ -38,22 +38,23 @@ fn put_wide(w: Walk, room: &mut [u8], last: u8) -> Walk {
     onward(writer::put_data(v, room, &data))
 }
 
-// A radial, with its sequence number in the last gate of each of its moments.
+// A radial, with its sequence number's lowest byte in the last gate of each of its moments.
 pub(crate) fn put_radial(w: Walk, room: &mut [u8], f: Facts) -> Walk {
     let v = onward(writer::put_radial(w, room, records::radial(f)));
     let moments = f.moments;
+    let last = (f.sequence % 256) as u8;
     match moments {
-        1 => put_narrow(v, room, f.sequence),
-        2 => put_wide(v, room, f.sequence),
+        1 => put_narrow(v, room, last),
+        2 => put_wide(v, room, last),
         _ => {
-            let u = put_narrow(v, room, f.sequence);
-            put_wide(u, room, f.sequence)
+            let u = put_narrow(v, room, last);
+            put_wide(u, room, last)
         }
     }
 }
 
 // The sequence number of a cut's first radial, where each cut has three.
-fn first_sequence(cut: u8) -> u8
+fn first_sequence(cut: u32) -> u32
     ensures { λ r. ⌜ r ≤ 16 ⌝ }
 {
     match cut {
@@ -67,7 +68,7 @@ pub(crate) fn put_radials(
     w: Walk,
     room: &mut [u8],
     moments: u8,
-    cut: u8,
+    cut: u32,
     opening: u8,
     closing: u8,
 ) -> Walk {
