@@ -94,6 +94,31 @@ SLIPS = {
         ('crates/gates/src/lib.rt', 'return 0.0;', 'return 1.0;'),
         ('crates/gates/proofs/Gates.antt', 'floatOf c code ≡ fin false 0 (pos 0)', 'floatOf c code ≡ fin false 1 (pos 0)'),
     ],
+    # 255 cuts at the most (number 8; document 02, #106)
+    'cuts_to_255': [
+        ('crates/rules/specs/States.antt', 'cond (is 2 (int scan)) 1 256', 'cond (is 2 (int scan)) 1 255'),
+        ('crates/rules/src/states.rt', '1..=256 => true', '1..=255 => true'),
+        ('crates/rules/proofs/states/cut_number_ok/Proof.antt', 'w32 1 256 _', 'w32 1 255 _'),
+        ('crates/rules/proofs/Numbers.antt', 'mostCuts scan ≡ 256', 'mostCuts scan ≡ 255'),
+        ('crates/rules/proofs/Numbers.antt', '1 256 257', '1 255 257'),
+    ],
+    # the sequence up to 65,535 (number 12; document 02, #106)
+    'sequence_to_65535': [
+        ('crates/rules/specs/Ranges.antt', 'mostSequence = 65536', 'mostSequence = 65535'),
+        ('crates/radial/src/lib.rt', '1..=65536 =>', '1..=65535 =>'),
+    ],
+    # an index of 51 cuts in the old form (document 02, #106)
+    'old_form_to_51': [
+        ('crates/index/specs/Index.antt', 'mostOld = 50', 'mostOld = 51'),
+        ('crates/index/src/making.rt', '0..=50 => true', '0..=51 => true'),
+    ],
+    # the two bytes of the number of cuts swapped in the new form (document 02, #106)
+    'cuts_swapped': [
+        ('crates/index/specs/Index.antt', 'newStart cuts = 0 ∷ bytes 2 cuts', 'newStart cuts = 0 ∷ bytes 1 (cuts / 256) ++ bytes 1 cuts'),
+        ('crates/index/specs/Index.antt', '{ℕ, zero, suc, _+_}', '{ℕ, zero, suc, _+_, _/_}'),
+        ('crates/index/src/making.rt', '[0, (cuts % 256) as u8, (cuts / 256 % 256) as u8]', '[0, (cuts / 256 % 256) as u8, (cuts % 256) as u8]'),
+        ('crates/index/proofs/Starts.antt', 'unfolding newStart\nlength-new cuts = ap suc (length-bytes 2 cuts)', 'unfolding newStart bytes\nlength-new cuts = refl'),
+    ],
     # the types seen not cleared at a new radial (number 20)
     'seen_not_cleared': [
         ('crates/walk/specs/After.antt', 'left = r .«length_of_data»; seen = 0;', 'left = r .«length_of_data»; seen = w .rest .seen;'),

@@ -28,7 +28,7 @@ use Rattle.index.specs.Answer.{rightFor}
 use Rattle.index.specs.Forms.{Contents, Fit, oldCuts, saidBy, contentsFor, contentsOf}
 use Rattle.index.specs.Index.{oldStart, newStart, indexBy, indexOf, oldIndexOf, newIndexOf}
 use Rattle.index.proofs.Forms.{first-old, first-new, few-cuts, many-cuts, says-back, other-form}
-use Rattle.index.proofs.Same.{right-only}
+use Rattle.index.proofs.Same.{right-only, right-when}
 use Rattle.index.proofs.Walked.{cuts-read}
 use Rattle.demands.specs.Cuts.{Whole, cutsOf, Forms, contentsOfVolume, Cuts}
 use Rattle.demands.proofs.Contents.{counts-of, fit}
@@ -78,13 +78,14 @@ module _ (f : List ℕ) {v : Volume} (o : Of v f) where
   old-first : cutsOf f ≤ 50 → oldCuts (oldIndexOf f) ≡ cutsOf f
   old-first h = let e = o .cuts in first-old (stop f .plan .cuts) (stretches f) (omega arith) ∙ e
 
-  forms : Forms f
-  forms =
+  forms : told f ≡ 0 ∷ [] → Forms f
+  forms e =
       record {
         old = λ h. (few h, ap oldCuts (few h) ∙ old-first h);
         new = λ h. (many h, ap oldCuts (many h) ∙ first-new (stop f .plan .cuts) (stretches f));
-        new-wrong = λ h. fails (rightFor f (newIndexOf f)) (λ e. other-form (stop f .plan .cuts) (stretches f) (sym (few h) ∙ right-only f (newIndexOf f) e .1));
-        old-wrong = λ h. fails (rightFor f (oldIndexOf f)) (λ e. other-form (stop f .plan .cuts) (stretches f) (sym (right-only f (oldIndexOf f) e .1) ∙ many h));
+        stored = λ h. right-when f (oldIndexOf f) e (few h);
+        new-wrong = λ h. fails (rightFor f (newIndexOf f)) (λ r. other-form (stop f .plan .cuts) (stretches f) (sym (few h) ∙ right-only f (newIndexOf f) r .1));
+        old-wrong = λ h. fails (rightFor f (oldIndexOf f)) (λ r. other-form (stop f .plan .cuts) (stretches f) (sym (right-only f (oldIndexOf f) r .1) ∙ many h));
         fits = fits;
         says = says;
       }
@@ -111,7 +112,7 @@ many-cuts-hold =
       sequence = λ before n. count-allowed mostSequence before n (lit< tt);
       twelve = λ r d. refl;
       as-before = as-before;
-      forms = λ f w. forms f (of-file f w);
+      forms = λ f w. forms f (of-file f w) (w .complete);
       volumes = contents;
       apart = apart;
       differ = λ f g w u e. sym (says f (of-file f w)) ∙ ap saidBy e ∙ says g (of-file g u);

@@ -37,7 +37,8 @@ pub record Forms (f : List ℕ) : Type 0 where
   -- the old form alone finds 0 cuts
   pub old : cutsOf f ≤ 50 → (indexOf f ≡ oldIndexOf f) × (oldCuts (indexOf f) ≡ cutsOf f)
   pub new : 50 < cutsOf f → (indexOf f ≡ newIndexOf f) × (oldCuts (indexOf f) ≡ 0)
-  -- the other form is wrong for the file
+  -- so what was stored stays right; the other form is wrong for the file
+  pub stored : cutsOf f ≤ 50 → rightFor f (oldIndexOf f) ≡ true
   pub new-wrong : cutsOf f ≤ 50 → rightFor f (newIndexOf f) ≡ false
   pub old-wrong : 50 < cutsOf f → rightFor f (oldIndexOf f) ≡ false
   -- each number fits its bytes, and so all of them are read back from the bytes of the index alone, whichever form it has
