@@ -54,6 +54,7 @@ radialSection ss = bytes 4 (length ss) ++ run placeOf ss
 unfoldable pub indexBy : (ℕ → List ℕ) → ℕ → List Stretch → List ℕ
 indexBy start cuts ss = cutSection start cuts ss ++ radialSection ss
 
+-- in the form that the number of cuts has (#106)
 abbrev pub indexFor : ℕ → List Stretch → List ℕ
 indexFor cuts ss = indexBy startOf cuts ss
 

@@ -1,5 +1,5 @@
--- What documents 01 and 02 say of radials and moments in other words than the rules (numbers 8, 12 to 14, 19, 20 and 24, "Tiling", "Masks" and
--- "States"; document 02, #106), and what therefore has to follow from the definition of a volume.
+-- What documents 01 and 02 say of radials and moments in other words than the rules (numbers 8, 12 to 14, 19, 20 and 24, "Tiling",
+-- "Masks" and "States"; document 02, #106), and what therefore has to follow from the definition of a volume.
 use Prim.Native.Nat.{ℕ, suc, _+_, _*_, _≤_}
 use mathlib.Core.Bool.{true}
 use mathlib.Core.List.{List, [], _∷_}
