@@ -3,8 +3,11 @@ use Prim.Native.Nat.{ℕ, _+_, _<_, _≤_}
 use native.Mathlib.Omega.{arith}
 use mathlib.Core.Bool.{true, false}
 use mathlib.Core.List.{List, [], _∷_, append-nil, map}
+use mathlib.Core.Logic.{dite}
 use mathlib.Core.Path.{_≡_, refl, sym, ap, ap₂, subst, _∙_}
-use lib.Dec.{lit<}
+use native.Mathlib.Decide.{decLt}
+use borrow.Author.Tests.{lt-ltb, le-ltb, ne-eqb}
+use lib.Dec.{lit<, ltb}
 use lib.ListN.{length}
 use Rattle.le.specs.Le.{Bytes, le, int}
 use Rattle.le.proofs.Laws.{le-part}
@@ -25,7 +28,7 @@ use Rattle.volume.proofs.Placed.{front}
 use Rattle.volume.proofs.Sense.{sense}
 use Rattle.volume.proofs.Tells.{same-number}
 use Rattle.index.specs.Answer.{rightFor}
-use Rattle.index.specs.Forms.{Contents, Fit, oldCuts, saidBy, contentsFor, contentsOf}
+use Rattle.index.specs.Forms.{Contents, Fit, oldCuts, isNew, saidBy, contentsFor, contentsOf}
 use Rattle.index.specs.Index.{oldStart, newStart, indexBy, indexOf, oldIndexOf, newIndexOf}
 use Rattle.index.proofs.Forms.{first-old, first-new, few-cuts, many-cuts, says-back, other-form}
 use Rattle.index.proofs.Same.{right-only, right-when}
@@ -78,11 +81,19 @@ module _ (f : List ℕ) {v : Volume} (o : Of v f) where
   old-first : cutsOf f ≤ 50 → oldCuts (oldIndexOf f) ≡ cutsOf f
   old-first h = let e = o .cuts in first-old (stop f .plan .cuts) (stretches f) (omega arith) ∙ e
 
+  by-first : isNew (indexOf f) ≡ ltb 50 (cutsOf f)
+  by-first =
+      let some = fits .some in
+      dite (decLt 50 (cutsOf f))
+      (λ h. rw (ap oldCuts (many h) ∙ first-new (stop f .plan .cuts) (stretches f), lt-ltb 50 (cutsOf f) h))
+      (λ h. rw (ap oldCuts (few (omega arith)) ∙ old-first (omega arith), ne-eqb (cutsOf f) 0 (λ z. omega arith), le-ltb 50 (cutsOf f) (omega arith)))
+
   forms : told f ≡ 0 ∷ [] → Forms f
   forms e =
       record {
         old = λ h. (few h, ap oldCuts (few h) ∙ old-first h);
         new = λ h. (many h, ap oldCuts (many h) ∙ first-new (stop f .plan .cuts) (stretches f));
+        by-first = by-first;
         stored = λ h. right-when f (oldIndexOf f) e (few h);
         new-wrong = λ h. fails (rightFor f (newIndexOf f)) (λ r. other-form (stop f .plan .cuts) (stretches f) (sym (few h) ∙ right-only f (newIndexOf f) r .1));
         old-wrong = λ h. fails (rightFor f (oldIndexOf f)) (λ r. other-form (stop f .plan .cuts) (stretches f) (sym (right-only f (oldIndexOf f) r .1) ∙ many h));

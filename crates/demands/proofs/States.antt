@@ -19,6 +19,7 @@ use Rattle.task.specs.declared.Task.{Task}
 use Rattle.volume.specs.Accepted.{Begun, BegunOk, UnclosedOk}
 use Rattle.volume.specs.Volume.{VolumeRadial, Volume, IsVolume, TaskOk, RadialOk, Closes, LayerOk, LayersOk}
 use Rattle.volume.proofs.Sense.{sense}
+use Rattle.volume.proofs.Tells.{same-number}
 use Rattle.demands.specs.States.{States, from, Line, one, many, table, mostIn, statesIn, CutOf, Says, Lines, ToTheLast, InOrder, LayersInOrder, Ones, Unclosed, lineOf, Layered, StateRule}
 
 -- a line holds where it has the definitions' numbers
@@ -147,15 +148,9 @@ layered : (t : Task) (cs : List Cut) (ls : List (List VolumeRadial)) → Kept t 
 layered t cs ls k some ok =
     record { scan = k .scan; most = k .most; order = layers-in-order t (lineOf (t .«scan_type»)) (k .line) (k .most) 1 0 cs ls (omega arith) (omega arith) ok }
 
-as-many : (t : Task) (k before : ℕ) (cs : List Cut) (ls : List (List VolumeRadial)) → LayersOk t k before cs ls → length ls ≡ length cs
-as-many t k before [] [] ok = refl
-as-many t k before [] (l ∷ ls) ok = absurd ok
-as-many t k before (c ∷ cs) [] ok = absurd ok
-as-many t k before (c ∷ cs) (l ∷ ls) ok = let e = as-many t (suc k) (before + length l) cs ls (ok .1) in omega arith
-
 volumes : (v : Volume) → IsVolume v → Layered (v .task) (v .layers) × (length (v .layers) ≡ v .task .«cut_number»)
 volumes v is =
-    let number : length (v .layers) ≡ v .task .«cut_number» = as-many (v .task) 1 0 (v .cuts) (v .layers) (is .layers) ∙ is .headed .number in
+    let number : length (v .layers) ≡ v .task .«cut_number» = sym (same-number (v .task) 1 0 (v .cuts) (v .layers) (is .layers)) ∙ is .headed .number in
     (layered (v .task) (v .cuts) (v .layers) (kept (v .task) (is .headed .task)) (omega arith) (is .layers), number)
 
 begun : (b : Begun) → BegunOk b
@@ -163,7 +158,7 @@ begun : (b : Begun) → BegunOk b
 begun b is =
     let t = b .task in
     let k = kept t (is .headed .task) in
-    let early = as-many t 1 0 (b .early) (b .closed) (is .closed) in
+    let early = same-number t 1 0 (b .early) (b .closed) (is .closed) in
     let cuts : length (b .early) + suc (length (b .later)) ≡ t .«cut_number» = sym (length-append (b .early) (b .cut ∷ b .later)) ∙ is .headed .number in (
       layered t (b .early) (b .closed) k (omega arith) (is .closed),
       unclosed t (lineOf (t .«scan_type»)) (k .line) (k .most) (b .cut) (suc (length (b .closed))) _ (b .now)

@@ -5,6 +5,7 @@ use mathlib.Core.Bool.{true, false}
 use mathlib.Core.List.{List, [], _∷_, map}
 use mathlib.Core.Logic.{_↔_}
 use mathlib.Core.Path.{_≡_}
+use lib.Dec.{ltb}
 use lib.ListN.{length}
 use Rattle.le.specs.Le.{Bytes, int}
 use Rattle.rules.specs.Check.{rule}
@@ -19,7 +20,7 @@ use Rattle.volume.specs.InPlace.{taskBlock}
 use Rattle.volume.specs.Meaning.{volumeStretches}
 use Rattle.volume.specs.Volume.{VolumeRadial, Volume, IsVolume, bytesOfVolume}
 use Rattle.index.specs.Answer.{rightFor}
-use Rattle.index.specs.Forms.{Contents, Fit, oldCuts, saidBy, contentsOf}
+use Rattle.index.specs.Forms.{Contents, Fit, oldCuts, isNew, saidBy, contentsOf}
 use Rattle.index.specs.Index.{indexOf, oldIndexOf, newIndexOf}
 use Rattle.demands.specs.Floats.{numbered}
 
@@ -37,7 +38,9 @@ pub record Forms (f : List ℕ) : Type 0 where
   -- the old form alone finds 0 cuts
   pub old : cutsOf f ≤ 50 → (indexOf f ≡ oldIndexOf f) × (oldCuts (indexOf f) ≡ cutsOf f)
   pub new : 50 < cutsOf f → (indexOf f ≡ newIndexOf f) × (oldCuts (indexOf f) ≡ 0)
-  -- so what was stored stays right; the other form is wrong for the file
+  -- so the first byte tells the form
+  pub by-first : isNew (indexOf f) ≡ ltb 50 (cutsOf f)
+  -- what was stored stays right; the other form is wrong for the file
   pub stored : cutsOf f ≤ 50 → rightFor f (oldIndexOf f) ≡ true
   pub new-wrong : cutsOf f ≤ 50 → rightFor f (newIndexOf f) ≡ false
   pub old-wrong : 50 < cutsOf f → rightFor f (oldIndexOf f) ≡ false

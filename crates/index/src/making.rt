@@ -69,7 +69,7 @@ fn old_form(cuts: u32) -> bool
     }
 }
 
-// The start of an index in either form, and how long it is.
+// The start of an index in either form, how long it is, and how it is put.
 fn old_start(cuts: u32) -> [u8; 1]
     ensures { λ r. ⌜ r ≡ oldStart cuts ⌝ }
 {
@@ -98,6 +98,7 @@ fn put_start(room: &mut [u8], cuts: u32)
     le::put(room, 0, &new_start(cuts));
 }
 
+// Whether the start stands in an index, which has five bytes at the least.
 fn start_stands(index: &[u8], cuts: u32) -> bool
     requires { ⌜ 3 ≤ length (now index) ⌝ }
     ensures { λ r. ⌜ r ≡ same (startOf cuts) (part (length (startOf cuts)) (now (index .entry)) 0) ⌝ }
