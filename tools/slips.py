@@ -117,6 +117,7 @@ SLIPS = {
         ('crates/index/specs/Index.antt', 'newStart cuts = 0 ∷ bytes 2 cuts', 'newStart cuts = 0 ∷ bytes 1 (cuts / 256) ++ bytes 1 cuts'),
         ('crates/index/specs/Index.antt', '{ℕ, zero, suc, _+_}', '{ℕ, zero, suc, _+_, _/_}'),
         ('crates/index/src/making.rt', '[0, (cuts % 256) as u8, (cuts / 256 % 256) as u8]', '[0, (cuts / 256 % 256) as u8, (cuts % 256) as u8]'),
+        ('crates/index/proofs/Starts.antt', 'use Rattle.le.specs.Le.{part}', 'use Rattle.le.specs.Le.{bytes, part}'),
         ('crates/index/proofs/Starts.antt', 'unfolding newStart\nlength-new cuts = ap suc (length-bytes 2 cuts)', 'unfolding newStart bytes\nlength-new cuts = refl'),
     ],
     # the types seen not cleared at a new radial (number 20)

@@ -1,7 +1,6 @@
 -- Up to 256 cuts, by citing the rules, the grammar of volumes and the index. Assumes nothing.
 use Prim.Native.Nat.{ℕ, _+_, _<_, _≤_}
 use native.Mathlib.Omega.{arith}
-use mathlib.Core.Bool.{true, false}
 use mathlib.Core.List.{List, [], _∷_, append-nil, map}
 use mathlib.Core.Logic.{dite}
 use mathlib.Core.Path.{_≡_, refl, sym, ap, ap₂, subst, _∙_}
@@ -9,7 +8,7 @@ use native.Mathlib.Decide.{decLt}
 use borrow.Author.Tests.{lt-ltb, le-ltb, ne-eqb}
 use lib.Dec.{lit<, ltb}
 use lib.ListN.{length}
-use Rattle.le.specs.Le.{Bytes, le, int}
+use Rattle.le.specs.Le.{int}
 use Rattle.le.proofs.Laws.{le-part}
 use Rattle.le.proofs.Tests.{fails}
 use Rattle.rules.specs.Ranges.{is, counts, mostSequence}
@@ -20,16 +19,15 @@ use Rattle.task.specs.Task.{taskAt, taskOf}
 use Rattle.reading.specs.declared.Stretch.{Stretch}
 use Rattle.reading.specs.Reading.{told, stop, stretches}
 use Rattle.volume.specs.Accepted.{Begun, BegunOk, dueRadial}
-use Rattle.volume.specs.InPlace.{taskBlock}
 use Rattle.volume.specs.Meaning.{volumeStretches, Holds}
-use Rattle.volume.specs.Volume.{VolumeRadial, Volume, IsVolume, bytesOfVolume}
+use Rattle.volume.specs.Volume.{Volume, IsVolume, bytesOfVolume}
 use Rattle.volume.proofs.Meaning.{means}
 use Rattle.volume.proofs.Placed.{front}
 use Rattle.volume.proofs.Sense.{sense}
 use Rattle.volume.proofs.Tells.{same-number}
 use Rattle.index.specs.Answer.{rightFor}
-use Rattle.index.specs.Forms.{Contents, Fit, oldCuts, isNew, saidBy, contentsFor, contentsOf}
-use Rattle.index.specs.Index.{oldStart, newStart, indexBy, indexOf, oldIndexOf, newIndexOf}
+use Rattle.index.specs.Forms.{Fit, oldCuts, isNew, saidBy, contentsFor, contentsOf}
+use Rattle.index.specs.Index.{indexOf, oldIndexOf, newIndexOf}
 use Rattle.index.proofs.Forms.{first-old, first-new, few-cuts, many-cuts, says-back, other-form}
 use Rattle.index.proofs.Same.{right-only, right-when}
 use Rattle.index.proofs.Walked.{cuts-read}

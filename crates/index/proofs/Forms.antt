@@ -3,7 +3,7 @@
 use Prim.Native.Nat.{ℕ, suc, _+_, _*_, _^_, _<_, _≤_}
 use native.Mathlib.Nat.{mul-zero, mul-suc, mod-eq-of-lt}
 use native.Mathlib.Omega.{arith}
-use mathlib.Core.Bool.{true, false}
+use mathlib.Core.Bool.{false}
 use mathlib.Core.List.{List, [], _∷_, _++_, append-assoc, append-nil, map, map-id}
 use mathlib.Core.Logic.{dite}
 use mathlib.Core.Path.{_≡_, refl, sym, ap, ap₂, _∙_}
@@ -15,9 +15,7 @@ use lib.Seq.{drop-append-seam}
 use Rattle.le.specs.Le.{le, bytes, run, items}
 use Rattle.le.proofs.Laws.{length-bytes, le-bytes}
 use Rattle.reading.specs.declared.Stretch.{Stretch}
-use Rattle.reading.specs.Reading.{stop, stretches}
-use Rattle.index.specs.Index.{perCut, oldStart, newStart, mostOld, startOf, countOf, cutSection, placeOf, radialSection, indexBy, indexFor, indexOf, oldIndexOf, newIndexOf}
-use Rattle.index.specs.Answer.{rightFor}
+use Rattle.index.specs.Index.{perCut, oldStart, newStart, mostOld, countOf, cutSection, placeOf, radialSection, indexBy, indexFor}
 use Rattle.index.specs.Forms.{Below, Fit, oldCuts, cutsSaid, countsAt, radialsAt, saidBy, contentsFor}
 use Rattle.index.proofs.Agree.{number-of}
 use Rattle.index.proofs.Sections.{next-entry, length-per-cut, length-by}

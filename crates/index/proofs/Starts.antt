@@ -10,7 +10,7 @@ use native.Mathlib.Decide.{decLt}
 use borrow.Author.Tests.{eqb-true, eqb-false}
 use lib.Dec.{eqb, leb}
 use lib.ListN.{length, getD}
-use Rattle.le.specs.Le.{bytes, part}
+use Rattle.le.specs.Le.{part}
 use Rattle.le.proofs.Laws.{length-bytes, part-all, part-at, part-same}
 use Rattle.index.specs.Answer.{same}
 use Rattle.index.specs.Index.{oldStart, newStart, mostOld, startOf}
