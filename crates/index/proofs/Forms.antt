@@ -1,7 +1,7 @@
 -- What an index says is read back from its bytes: its first byte tells the form, and with it where everything stands; each number
 -- is read as it was written, where it fits its bytes. So the bytes of an index are those of no other contents. Assumes nothing.
-use Prim.Native.Nat.{ℕ, suc, _+_, _*_, _^_, _<_, _≤_}
-use native.Mathlib.Nat.{mul-zero, mul-suc, mod-eq-of-lt}
+use Prim.Native.Nat.{ℕ, _+_, _*_, _^_, _<_, _≤_}
+use native.Mathlib.Nat.{mod-eq-of-lt}
 use native.Mathlib.Omega.{arith}
 use mathlib.Core.Bool.{false}
 use mathlib.Core.List.{List, [], _∷_, _++_, append-assoc, append-nil, map, map-id}
@@ -11,64 +11,54 @@ use native.Mathlib.Decide.{decLt}
 use borrow.Author.Tests.{le-leb, lt-leb, ne-eqb}
 use lib.Dec.{eqb}
 use lib.ListN.{length, drop}
-use lib.Seq.{drop-append-seam}
 use Rattle.le.specs.Le.{le, bytes, run, items}
 use Rattle.le.proofs.Laws.{length-bytes, le-bytes}
 use Rattle.reading.specs.declared.Stretch.{Stretch}
 use Rattle.index.specs.Index.{perCut, oldStart, newStart, mostOld, countOf, cutSection, placeOf, radialSection, indexBy, indexFor}
 use Rattle.index.specs.Forms.{Below, Fit, oldCuts, cutsSaid, countsAt, radialsAt, saidBy, contentsFor}
 use Rattle.index.proofs.Agree.{number-of}
-use Rattle.index.proofs.Sections.{next-entry, length-per-cut, length-by}
+use Rattle.index.proofs.Sections.{next-entry, length-per-cut, length-by, start-first, counts-first, radials-first}
 use Rattle.index.proofs.Starts.{start-old, start-new, length-old, length-new}
 
 -- ---- numbers that stand one behind the other
 
 module _ {A : Type 0} (enc : A → List ℕ) (value : A → ℕ) (w : ℕ) (is : (a : A) → enc a ≡ bytes w (value a)) where
-  read-run : (xs : List A) (f : List ℕ) (at : ℕ) (y : List ℕ) → drop at f ≡ run enc xs ++ y → Below value (256 ^ w) xs
-      → (items (le w) w (length xs) f at ≡ map value xs) × (drop (at + w * length xs) f ≡ y)
+  read-run : (xs : List A) (f : List ℕ) (at : ℕ) (y : List ℕ) → drop at f ≡ run enc xs ++ y → Below value (256 ^ w) xs → items (le w) w (length xs) f at ≡ map value xs
   unfolding run items
-  read-run [] f at y e h = let z = mul-zero w in let n : at + w * 0 ≡ at = omega arith in (refl, rw n e)
+  read-run [] f at y e h = refl
   read-run (x ∷ xs) f at y e h =
       let here = next-entry f at w (bytes w (value x)) (run enc xs ++ y) (e ∙ append-assoc (enc x) (run enc xs) y ∙ ap (λ (l : List ℕ). l ++ (run enc xs ++ y)) (is x)) (length-bytes w (value x)) in
-      let rest = read-run xs f (at + w) y (here .1) (h .1) in
-      let m = mul-suc w (length xs) in
-      let n : at + w * suc (length xs) ≡ at + w + w * length xs = omega arith in
-      (ap₂ (λ (n : ℕ) (l : List ℕ). n ∷ l) (number-of w (value x) f at (here .0) ∙ mod-eq-of-lt (h .0)) (rest .0), rw n (rest .1))
+      ap₂ (λ (n : ℕ) (l : List ℕ). n ∷ l) (number-of w (value x) f at (here .0) ∙ mod-eq-of-lt (h .0)) (read-run xs f (at + w) y (here .1) (h .1))
 
 -- ---- an index, by what it starts with
 
 module _ (start : ℕ → List ℕ) (cuts : ℕ) (ss : List Stretch) where
-  behind-start : indexBy start cuts ss ≡ start cuts ++ (run countOf (perCut cuts 1 ss) ++ radialSection ss)
-  unfolding indexBy cutSection
-  behind-start = append-assoc (start cuts) (run countOf (perCut cuts 1 ss)) (radialSection ss)
-
   -- the start is told, and what stands behind it is read
   record Told : Type 0 where
     is : cutsSaid (indexBy start cuts ss) ≡ cuts
     at : countsAt (indexBy start cuts ss) ≡ length (start cuts)
 
   read-back : Fit cuts ss → Told → saidBy (indexBy start cuts ss) ≡ contentsFor cuts ss
-  unfolding saidBy radialsAt countOf placeOf radialSection
+  unfolding saidBy radialsAt countOf placeOf
   read-back fit told =
       let x = indexBy start cuts ss in
-      let l = length-per-cut cuts 1 ss in
-      let first =
-      read-run countOf (λ (n : ℕ). n) 2 (λ n. refl) (perCut cuts 1 ss) x (length (start cuts)) (radialSection ss)
-      (ap (drop (length (start cuts))) behind-start ∙ drop-append-seam (start cuts) _) (fit .counts) in
-      let counts = rw l at (first .0) in
-      let radials = next-entry x (length (start cuts) + 2 * cuts) 4 (bytes 4 (length ss)) (run placeOf ss) (rw l at (first .1)) (length-bytes 4 (length ss)) in
-      let number : le 4 x (length (start cuts) + 2 * cuts) ≡ length ss = number-of 4 (length ss) x _ (radials .0) ∙ mod-eq-of-lt (fit .radials) in
-      let places = read-run placeOf (λ (s : Stretch). s .start) 8 (λ s. refl) ss x (length (start cuts) + 2 * cuts + 4) [] (radials .1 ∙ sym (append-nil (run placeOf ss))) (fit .places) in
-      rw (told .is, told .at, number, counts, places .0, map-id (perCut cuts 1 ss))
+      let at = length (start cuts) + 2 * cuts in
+      let radials = radials-first start cuts ss in
+      let counts =
+      rw (length-per-cut cuts 1 ss) at
+      (read-run countOf (λ (n : ℕ). n) 2 (λ n. refl) (perCut cuts 1 ss) x (length (start cuts)) (radialSection ss) (counts-first start cuts ss) (fit .counts)) in
+      let number : le 4 x at ≡ length ss = number-of 4 (length ss) x at (radials .0) ∙ mod-eq-of-lt (fit .radials) in
+      let places = read-run placeOf (λ (s : Stretch). s .start) 8 (λ s. refl) ss x (at + 4) [] (radials .1 ∙ sym (append-nil (run placeOf ss))) (fit .places) in
+      rw (told .is, told .at, number, counts, places, map-id (perCut cuts 1 ss))
 
 module _ (cuts : ℕ) (ss : List Stretch) where
   pub first-old : cuts < 256 → oldCuts (indexBy oldStart cuts ss) ≡ cuts
   unfolding oldStart
-  first-old h = ap (λ (f : List ℕ). le 1 f 0) (behind-start oldStart cuts ss) ∙ le-bytes 1 cuts _ h
+  first-old h = ap (λ (f : List ℕ). le 1 f 0) (start-first oldStart cuts ss) ∙ le-bytes 1 cuts _ h
 
   pub first-new : oldCuts (indexBy newStart cuts ss) ≡ 0
   unfolding newStart le
-  first-new = ap (λ (f : List ℕ). le 1 f 0) (behind-start newStart cuts ss)
+  first-new = ap (λ (f : List ℕ). le 1 f 0) (start-first newStart cuts ss)
 
   old-told : 1 ≤ cuts → cuts < 256 → Told oldStart cuts ss
   unfolding cutsSaid countsAt
@@ -81,7 +71,7 @@ module _ (cuts : ℕ) (ss : List Stretch) where
   unfolding cutsSaid countsAt newStart le
   new-told h =
       record {
-        is = rw first-new (ap (λ (f : List ℕ). le 2 f 1) (behind-start newStart cuts ss) ∙ le-bytes 2 cuts _ h);
+        is = rw first-new (ap (λ (f : List ℕ). le 2 f 1) (start-first newStart cuts ss) ∙ le-bytes 2 cuts _ h);
         at = rw first-new (sym (length-new cuts));
       }
 

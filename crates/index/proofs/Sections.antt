@@ -54,6 +54,23 @@ length-by start cuts ss =
 pub length-index : (cuts : ℕ) (ss : List Stretch) → length (indexFor cuts ss) ≡ secondAt cuts + 4 + 8 * length ss
 length-index cuts ss = length-by startOf cuts ss
 
+-- ---- what stands where, whatever the index starts with
+
+module _ (start : ℕ → List ℕ) (cuts : ℕ) (ss : List Stretch) where
+  pub start-first : indexBy start cuts ss ≡ start cuts ++ (run countOf (perCut cuts 1 ss) ++ radialSection ss)
+  unfolding indexBy cutSection
+  start-first = append-assoc (start cuts) (run countOf (perCut cuts 1 ss)) (radialSection ss)
+
+  pub counts-first : drop (length (start cuts)) (indexBy start cuts ss) ≡ run countOf (perCut cuts 1 ss) ++ radialSection ss
+  counts-first = ap (drop (length (start cuts))) start-first ∙ drop-append-seam (start cuts) _
+
+  pub radials-first : (part 4 (indexBy start cuts ss) (length (start cuts) + 2 * cuts) ≡ bytes 4 (length ss)) × (drop (length (start cuts) + 2 * cuts + 4) (indexBy start cuts ss) ≡ run placeOf ss)
+  unfolding indexBy radialSection
+  radials-first =
+      let at = length (start cuts) + 2 * cuts in
+      next-entry (indexBy start cuts ss) at 4 (bytes 4 (length ss)) (run placeOf ss)
+      (drop-at (cutSection start cuts ss) (radialSection ss) at (length-cuts start cuts ss)) (length-bytes 4 (length ss))
+
 -- ---- counts still to come: the first of n cuts has had some radials already
 
 unfoldable pub owed : ℕ → ℕ → ℕ → List Stretch → List ℕ
@@ -93,22 +110,12 @@ module _ (cuts : ℕ) (ss : List Stretch) where
     pub rises : Rising cut rest
     pub few : count ≤ second
 
-  -- the counts with which the sections start, and what follows them
-  start-first : indexFor cuts ss ≡ startOf cuts ++ (run countOf (perCut cuts 1 ss) ++ radialSection ss)
-  unfolding indexBy cutSection
-  start-first = append-assoc (startOf cuts) (run countOf (perCut cuts 1 ss)) (radialSection ss)
-
+  -- the counts with which the sections start
   pub start-here : part (length (startOf cuts)) (indexFor cuts ss) 0 ≡ startOf cuts
-  start-here = next-entry (indexFor cuts ss) 0 (length (startOf cuts)) (startOf cuts) _ start-first refl .0
-
-  radials-first : (part 4 (indexFor cuts ss) (secondAt cuts) ≡ bytes 4 (length ss)) × (drop (secondAt cuts + 4) (indexFor cuts ss) ≡ run placeOf ss)
-  unfolding indexBy radialSection
-  radials-first =
-      next-entry (indexFor cuts ss) (secondAt cuts) 4 (bytes 4 (length ss)) (run placeOf ss)
-      (drop-at (cutSection startOf cuts ss) (radialSection ss) (secondAt cuts) (length-cuts startOf cuts ss)) (length-bytes 4 (length ss))
+  start-here = next-entry (indexFor cuts ss) 0 (length (startOf cuts)) (startOf cuts) _ (start-first startOf cuts ss) refl .0
 
   pub radials-here : part 4 (indexFor cuts ss) (secondAt cuts) ≡ bytes 4 (length ss)
-  radials-here = radials-first .0
+  radials-here = radials-first startOf cuts ss .0
 
   -- a start that is the index's, and one that is another
   pub start-stands : (x : List ℕ) → same (startOf cuts) (part (length (startOf cuts)) x 0) ≡ true → part (length (startOf cuts)) x 0 ≡ part (length (startOf cuts)) (indexFor cuts ss) 0
@@ -124,8 +131,8 @@ module _ (cuts : ℕ) (ss : List Stretch) where
   making r =
       let n : suc cuts - 1 ≡ cuts = omega arith in
       record {
-        counts = ap (drop (length (startOf cuts))) start-first ∙ drop-append-seam (startOf cuts) _ ∙ ap (λ (l : List ℕ). run countOf l ++ radialSection ss) (sym (rw n (owed-new cuts 1 ss)));
-        places = radials-first .1;
+        counts = counts-first startOf cuts ss ∙ ap (λ (l : List ℕ). run countOf l ++ radialSection ss) (sym (rw n (owed-new cuts 1 ss)));
+        places = radials-first startOf cuts ss .1;
         low = omega arith;
         high = sym (length-index cuts ss);
         rises = r;
