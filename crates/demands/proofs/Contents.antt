@@ -1,6 +1,6 @@
 -- What an index says of a volume, by its structure: a count for each layer, which is the layer's radials, and the place of each
 -- radial; and that each of these numbers fits its bytes. Assumes nothing.
-use Prim.Native.Nat.{ℕ, zero, suc, _+_, _*_, _^_, _<_, _≤_}
+use Prim.Native.Nat.{ℕ, suc, _+_, _*_, _^_, _<_, _≤_}
 use native.Mathlib.Nat.{add-zero, zero-add}
 use native.Mathlib.Omega.{arith}
 use mathlib.Core.List.{List, [], _∷_, _++_, map}
@@ -20,6 +20,7 @@ use Rattle.volume.proofs.Sense.{sense}
 use Rattle.volume.proofs.Tells.{same-number}
 use Rattle.index.specs.Index.{radialsIn, perCut}
 use Rattle.index.specs.Forms.{Below, Fit}
+use Rattle.index.proofs.Sections.{per-cut-skip}
 
 -- ---- counts
 
@@ -40,9 +41,8 @@ later c k at [] h = refl
 later c k at (l ∷ ls) h = other c k at l _ (λ e. omega arith) ∙ later c (suc k) (endOf at l) ls (omega arith)
 
 others : (n c k at : ℕ) (l : List VolumeRadial) (ss : List Stretch) → k < c → perCut n c (layerStretches k at l ++ ss) ≡ perCut n c ss
-unfolding perCut
-others zero c k at l ss h = refl
-others (suc n) c k at l ss h = ap₂ (λ (m : ℕ) (ms : List ℕ). m ∷ ms) (other c k at l ss (λ e. omega arith)) (others n (suc c) k at l ss (omega arith))
+others n c k at [] ss h = refl
+others n c k at (b ∷ bs) ss h = per-cut-skip n c _ _ h ∙ others n c k (at + length (bytesOfRadial b)) bs ss h
 
 per-layer : (k at : ℕ) (ls : List (List VolumeRadial)) → perCut (length ls) k (layersStretches k at ls) ≡ map (λ (l : List VolumeRadial). length l) ls
 unfolding perCut

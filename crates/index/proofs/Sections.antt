@@ -83,7 +83,7 @@ owed-new zero cut ss = refl
 owed-new (suc n) cut ss = ap (λ (k : ℕ). k ∷ perCut n (suc cut) ss) (zero-add (radialsIn cut ss))
 
 -- a radial of a lower cut does not count
-per-cut-skip : (n cut : ℕ) (s : Stretch) (ss : List Stretch) → s .cut < cut → perCut n cut (s ∷ ss) ≡ perCut n cut ss
+pub per-cut-skip : (n cut : ℕ) (s : Stretch) (ss : List Stretch) → s .cut < cut → perCut n cut (s ∷ ss) ≡ perCut n cut ss
 unfolding perCut radialsIn
 per-cut-skip zero cut s ss h = refl
 per-cut-skip (suc n) cut s ss h =
