@@ -1,8 +1,8 @@
 #!/usr/bin/env python3
 """What the program `questions` prints: the answers of documents 01 and 02 on the volume `rich`, on shortened
-and damaged copies of it, and on the volume `layers`.
+and damaged copies of it, and on the volumes `layers` and `valley`.
 
-    (python3 tools/volumes.py rich; python3 tools/volumes.py layers) > crates/questions/stdin
+    for v in rich layers valley; do python3 tools/volumes.py $v; done > crates/questions/stdin
     python3 tools/questions_expected.py > crates/questions/stdout
 
 The stored output was worked out here, by the reference reader, which was written from the
@@ -13,7 +13,8 @@ documents' text alone; nothing in it comes from the program. A section for each 
     gates N: for each type, what is told of gate 2**64 - 1/checksum of the answers for
         gates 0 to 19
     rows N: for each type, gates/last place of both rooms/checksum of all 16 places of both
-    tallies C: for each type, radials/seven counts
+    tallies C: for each type, the full circle's start/end/radials/spot blanks/seven counts
+    wedges C T: of `rich` and `valley`, the same for each wedge, named by its start and end
 
 and after the whole volume's, each gate of some moments (kind, difference, scale, hundredths,
 the float's bits or the class), some gates in words, rows in short rooms, and codes over a scale of 0. A refusal is `no`
@@ -147,9 +148,21 @@ def moment(r, n, t):
                 len(data), data[0], data[-1])
 
 
-def tally(r, cut, t):
-    answer = r.tally(cut, t)
-    return no(answer) if is_refused(answer) else join(answer.radials, *answer.kinds)
+def tally(r, cut, t, start=0, end=0):
+    answer = r.tally(cut, t, start, end)
+    if is_refused(answer):
+        return no(answer)
+    return join(answer.start, answer.end, answer.radials, answer.blanks, *answer.kinds)
+
+
+# Wedges that start at, end at and straddle 0 and 12.34; a quarter, its rest, and next to it; equal ends; out of range.
+WEDGES = [(0, 0), (0, 1), (35999, 1), (35999, 0), (1, 0), (0, 35999), (1, 35999), (1233, 1234), (1234, 1235), (1234, 1233),
+          (1235, 1233), (9000, 18000), (18000, 9000), (9001, 18001), (1234, 1234), (35999, 35999), (36000, 0), (0, 36000),
+          (36000, 36000), (2**32 - 1, 0)]
+
+
+def wedges(r, cut, t):
+    return f'wedges {cut} {t}:' + ''.join(f' {a}-{b}={tally(r, cut, t, a, b)}' for a, b in WEDGES)
 
 
 # --------------------------------------------------------------------------
@@ -182,6 +195,8 @@ def whole(data):
     yield in_words(ref.read(data[:1200]), 1, 1, 0)
     for asked in (1, 2, 13, 13), (1, 2, 12, 13), (1, 2, 13, 12), (1, 2, 0, 0), (9, 2, 0, 0), (1, 4, 0, 0):
         yield lent_row(r, *asked)
+    for cut, t in (1, 1), (1, 2), (3, 14), (4, 1):
+        yield wedges(r, cut, t)
     for code in 65, 66, 67, 2:
         yield 'code %d less 66 over 0: %d %d %d %d %016x' % (code, *told(ref.gate_of(code, 0, 66, 2)))
 
@@ -215,6 +230,9 @@ def main():
     for label, copy in *copies(data), ('six layers', volumes.named('layers')):
         for line in section(label, copy):
             print(line)
+    r = ref.read(volumes.named('valley'))
+    for cut, t in (1, 2), (2, 2), (1, 4), (1, 3), (0, 2), (3, 2):
+        print(wedges(r, cut, t))
 
 
 if __name__ == '__main__':

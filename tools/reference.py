@@ -11,6 +11,7 @@ Every refusal has one shape: ('refused', number, place).
 import struct
 import sys
 from collections import namedtuple
+from fractions import Fraction
 
 MAGIC = 0x4D545352
 LISTING_TAKES = 65536          # "Numbers to try": the listing's part of the input
@@ -189,7 +190,8 @@ Moment = namedtuple('Moment', 'type header_place place length bin_length scale o
 # kind 0 below threshold, 1 range folded, 2 not scanned, 3 unknown, 4 reserved;
 # 5 is a value: float, exact fraction (not reduced), hundredths; 6 is a class: its raw code
 Gate = namedtuple('Gate', 'kind value numerator denominator hundredths code', defaults=[None] * 5)
-Tally = namedtuple('Tally', 'radials kinds')
+# the wedge as it was asked; in it the radials, those with spot blank 1, and the gates by their kinds
+Tally = namedtuple('Tally', 'start end radials blanks kinds')
 
 
 class End(Exception):
@@ -320,17 +322,32 @@ class Reading:
             hundredths[i] = g.hundredths if g.kind == 5 else 0
         return len(gates)
 
-    def tally(self, cut, t):
-        """Whole radials of the cut that carry the type, and their seven kinds of gate."""
+    def tally(self, cut, t, start=0, end=0):
+        """Whole radials of the cut, in a wedge, that carry the type, and their seven kinds of gate.
+        Order: 61, 30, 31."""
+        if not (0 <= start <= 35999 and 0 <= end <= 35999):
+            return refused(61)
         if not 1 <= cut <= len(self.cuts):
             return refused(30)
-        radials, kinds = 0, [0] * 7
+        radials, blanks, kinds = 0, 0, [0] * 7
         for r in self.radials:
-            if r.cut == cut and any(m.type == t for m in r.moments):
+            head = unpack('radial', self.data[r.place:r.place + 64])
+            if r.cut == cut and any(m.type == t for m in r.moments) and in_wedge(start, end, head['azimuth']):
                 radials += 1
+                blanks += head['spot blank'] == 1
                 for g in self.gates(r.sequence, t):
                     kinds[g.kind] += 1
-        return Tally(radials, kinds) if radials else refused(31)
+        return Tally(start, end, radials, blanks, kinds) if radials else refused(31)
+
+
+def in_wedge(start, end, azimuth):
+    """Document 02, #114: start and end in hundredths of a degree, the azimuth by its exact value."""
+    exact = Fraction(azimuth)
+    if exact == 360:
+        exact = Fraction(0)
+    since = (exact - Fraction(start, 100)) % 360        # how far past the start, going round
+    width = Fraction(end - start, 100) % 360 or 360     # equal ends: all round
+    return since < width
 
 
 CLASSES = (14, 15)             # document 02, #101: HCL and CF are classes and flags

@@ -168,6 +168,28 @@ def layers_spec(scan_type=5):
     return volume(cuts, **{'scan type': scan_type})
 
 
+def single(bits):
+    """The four bytes of the single with these bits."""
+    return struct.pack('<I', bits)
+
+
+# The azimuths of `valley`, in the order of its radials: zero and minus zero, 360, the smallest above zero; the singles next to 12.34
+# on both sides; 90, 180; the single at 359.99, which is a little below it, and the next; 359.995, and the last below 360
+VALLEY = [0x00000000, 0x80000000, 0x43B40000, 0x00000001, 0x414570A3, 0x414570A4, 0x42B40000, 0x43340000,
+          0x43B3FEB8, 0x43B3FEB9, 0x43B3FF5C, 0x43B3FFFF]
+
+
+def valley_spec():
+    """Document 02, #114: two cuts with a radial at each azimuth that a wedge may turn on, each with other gates; every third
+    radial of the first cut and all of the second have a spot blank; type 4 only at 12.34 and 180."""
+    def radials(cut):
+        for k, bits in enumerate(VALLEY, 1):
+            z = moment(2, [(k + cut) % 5] * k + [5 + k])
+            w = [moment(4, words(2, 261, 0))] if k in (6, 8) else []
+            yield radial(*w, z, azimuth=single(bits), spot_blank=int(cut == 2 or k % 3 == 0))
+    return volume([cut(radials(c), mask(2, 4), mask(4)) for c in (1, 2)])
+
+
 def many_cuts_spec(count=ref.MOST_CUTS, scan_type=4):
     """Many cuts, two radials each; from 145 cuts on longer than what the listing program takes."""
     pair = [radial(moment(2, [2])), radial(moment(2, [0]))]
@@ -200,7 +222,7 @@ def long_cut_spec(count=1000):
 SPECS = {
     'small': small_spec, 'rich': rich_spec,
     'rhi2': lambda: rhi_spec(2), 'rhi5': lambda: rhi_spec(5),
-    'layers': layers_spec, 'too_many_for_2': lambda: layers_spec(2),
+    'valley': valley_spec, 'layers': layers_spec, 'too_many_for_2': lambda: layers_spec(2),
     'cuts_50': lambda: many_cuts_spec(50), 'cuts_51': lambda: many_cuts_spec(51),
     'cuts_120': lambda: many_cuts_spec(120), 'layers_120': lambda: many_cuts_spec(120, 5),
     'many_cuts': many_cuts_spec, 'too_many_cuts': lambda: many_cuts_spec(257),
@@ -303,6 +325,24 @@ def check():
         assert ref.index_right(data, index)
         other = ref.new_start(count) if count <= 50 else bytes([count % 256])
         assert not ref.index_right(data, other + index[len(start):])
+
+    # document 02, #114: wedges by the exact value, 360 as 0, the end left out
+    for bits, start, end, lies in (
+            (0, 0, 1, 1), (0x80000000, 0, 1, 1), (0x43B40000, 0, 1, 1), (0x43B40000, 35999, 1, 1), (0x43B40000, 35999, 0, 0),
+            (1, 0, 1, 1), (1, 1, 0, 0), (0x414570A4, 1234, 1235, 1), (0x414570A3, 1234, 1235, 0), (0x414570A3, 1233, 1234, 1),
+            (0x414570A4, 1233, 1234, 0), (0x43B3FEB8, 35999, 0, 0), (0x43B3FEB9, 35999, 0, 1), (0x43B3FF5C, 35999, 0, 1),
+            (0x43B3FF5C, 0, 35999, 0), (0x42B40000, 9000, 18000, 1), (0x43340000, 9000, 18000, 0), (0x43340000, 77, 77, 1)):
+        assert ref.in_wedge(start, end, struct.unpack('<f', single(bits))[0]) == bool(lies), (hex(bits), start, end)
+    r = ref.read(named('valley'))
+    whole = r.tally(1, 2)
+    assert whole[:4] == (0, 0, 12, 4) and r.tally(2, 2).blanks == 12
+    for a, b in (0, 1), (0, 35999), (1234, 1233), (9000, 18000), (35999, 1), (100, 50):
+        there, back = r.tally(1, 2, a, b), r.tally(1, 2, b, a)
+        kinds = zip(*(x.kinds for x in (there, back) if isinstance(x, ref.Tally)))
+        assert [sum(k) for k in kinds] == whole.kinds
+    assert r.tally(9, 2, 36000, 0) == r.tally(1, 2, 0, 36000) == r.tally(1, 2, -1, 0) == ref.refused(61)
+    assert r.tally(3, 2, 35999, 0) == r.tally(0, 2) == ref.refused(30)
+    assert r.tally(1, 4, 0, 1234) == r.tally(1, 2, 100, 200) == ref.refused(31)
 
     # the other volumes: valid ones are complete, and written block by block the same
     for name in SPECS:

@@ -9,6 +9,7 @@ use lib.Dec.{leb}
 use lib.ListN.{length}
 use Rattle.le.proofs.Tests.{both}
 use Rattle.rules.specs.Ranges.{within}
+use Rattle.wedge.specs.declared.Wedge.{Wedge}
 use Rattle.walk.specs.declared.due.Due.{Due}
 use Rattle.walk.specs.declared.due.Due.the-variants as due
 use Rattle.walk.specs.declared.due.Walk.{Walk}
@@ -24,9 +25,9 @@ use Rattle.reading.proofs.Growing.{through}
 use Rattle.reading.proofs.Grown.{last-onward}
 use Rattle.reading.proofs.Radials.{each-radial}
 use Rattle.reading.proofs.Run.{settle-took, took-inj, due-either, taken, last-holds}
-use Rattle.ask.specs.declared.tallies.Tally.{Tally}
+use Rattle.ask.specs.declared.tallies.Sums.{Sums}
 use Rattle.ask.specs.Growth.{NoFewer}
-use Rattle.ask.specs.Tallies.{added, tallyOver, cutAccepted}
+use Rattle.ask.specs.Tallies.{added, tallyOne, sumsOver, cutAccepted}
 
 -- ---- where the stretches of a file lie
 
@@ -63,10 +64,11 @@ pub nth-placed : (f : List ℕ) (n : ℕ) (s : Stretch) → nth (stretches f) n 
 nth-placed f n s e = nth-of (AllPlaced f) (Placed f) (λ s l h. h) (stretches f) n s (all-placed f) e
 
 -- the radials of A add to a tally of the longer file what they add to one of A
-pub tally-same : (A C : List ℕ) (cut t : ℕ) (l : List Stretch) → Same A (A ++ C) l → tallyOver (A ++ C) cut t l ≡ tallyOver A cut t l
-unfolding tallyOver
-tally-same A C cut t [] h = refl
-tally-same A C cut t (s ∷ l) h = rw (h .0, tally-same A C cut t l (h .1))
+pub sums-same : (A C : List ℕ) (cut t : ℕ) (w : Wedge) (l : List Stretch) → Same A (A ++ C) l
+    → sumsOver (tallyOne (A ++ C) cut t w) l ≡ sumsOver (tallyOne A cut t w) l
+unfolding sumsOver
+sums-same A C cut t w [] h = refl
+sums-same A C cut t w (s ∷ l) h = rw (h .0, sums-same A C cut t w l (h .1))
 
 -- ---- the accepted cuts of a walk grow
 
@@ -122,10 +124,12 @@ accepted-kept A C cut e =
 
 -- ---- no count falls
 
-pub no-fewer : (a b : Tally) → NoFewer a (added a b)
-no-fewer a b =
+pub no-fewer : (w : Wedge) (a b : Sums) → NoFewer (record { wedge = w; sums = a }) (record { wedge = w; sums = added a b })
+no-fewer w a b =
     record {
+      wedge = refl;
       radials = omega arith;
+      blanks = omega arith;
       below = omega arith;
       folded = omega arith;
       «not_scanned» = omega arith;

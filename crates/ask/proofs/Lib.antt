@@ -1,3 +1,4 @@
+pub mod AddUp
 pub mod Asked
 pub mod Counted
 pub mod Divided

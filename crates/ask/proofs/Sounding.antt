@@ -90,7 +90,7 @@ module _ (f : List ℕ) (s : Stretch) (h : Placed f s) where
   unfolding momentAt
   own-moment at k = ap momentOf (own-part 32 at k)
 
-  own-radial : radialAt (bytesOf f s) 0 ≡ radialAt f (s .start)
+  pub own-radial : radialAt (bytesOf f s) 0 ≡ radialAt f (s .start)
   unfolding radialAt
   own-radial =
       let a = h .header in

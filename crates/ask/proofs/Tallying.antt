@@ -1,6 +1,6 @@
--- Tallies add up, and no sum in a tally of a file is too large: a radial adds 1 and at most its bytes. Assumes nothing.
+-- Sums add up, and no sum in a tally of a file is too large: a radial adds 1, at most one blank and at most its bytes. Assumes nothing.
 use Prim.Native.Nat.{ℕ, _+_, _-_, _≤_}
-use native.Mathlib.Nat.{add-assoc, add-zero, zero-add}
+use native.Mathlib.Nat.{add-assoc, add-comm, add-zero, zero-add}
 use native.Mathlib.Omega.{arith}
 use mathlib.Core.Bool.{Bool, true, false, cond}
 use mathlib.Core.List.{List, [], _∷_, _++_}
@@ -8,6 +8,8 @@ use mathlib.Core.Path.{_≡_, refl, sym, ap, _∙_}
 use lib.Dec.{eqb}
 use lib.ListN.{length, length-take, length-drop}
 use Rattle.moment.specs.Moment.{momentAt}
+use Rattle.radial.specs.Radial.{radialAt}
+use Rattle.wedge.specs.declared.Wedge.{Wedge}
 use Rattle.gates.specs.Codes.{codesOf}
 use Rattle.gates.specs.Counting.{countOf, totalOf}
 use Rattle.gates.proofs.Codes.{codes-le}
@@ -22,39 +24,42 @@ use Rattle.reading.proofs.Loops.{further, no-more, stopped}
 use Rattle.reading.proofs.Radials.{Between, outside, between-next}
 use Rattle.ask.specs.declared.places.Where.{Where}
 use Rattle.ask.specs.declared.places.Where.the-variants.{At, NoRadial, NoMoment}
-use Rattle.ask.specs.declared.tallies.Tally.{Tally}
+use Rattle.ask.specs.declared.tallies.Sums.{Sums}
 use Rattle.ask.specs.Answers.{codingOf}
 use Rattle.ask.specs.Places.{momentIn}
-use Rattle.ask.specs.Tallies.{noTally, added, carried, tallyOne, tallyOver, tallyOf}
+use Rattle.ask.specs.Tallies.{noSums, added, carried, isCounted, tallyOne, sumsOver, tallyOf}
 
 -- ---- sums
 
-pub added-assoc : (a b c : Tally) → added (added a b) c ≡ added a (added b c)
+pub added-assoc : (a b c : Sums) → added (added a b) c ≡ added a (added b c)
 added-assoc a b c = simp add-assoc
 
-pub none-added : (a : Tally) → added noTally a ≡ a
+pub added-comm : (a b : Sums) → added a b ≡ added b a
+added-comm a b = simp add-comm
+
+pub none-added : (a : Sums) → added noSums a ≡ a
 unfolding countOf
 none-added a = simp zero-add
 
-pub added-none : (a : Tally) → added a noTally ≡ a
+pub added-none : (a : Sums) → added a noSums ≡ a
 unfolding countOf
 added-none a = simp add-zero
 
-pub tally-append : (f : List ℕ) (cut t : ℕ) (a b : List Stretch) → tallyOver f cut t (a ++ b) ≡ added (tallyOver f cut t a) (tallyOver f cut t b)
-unfolding tallyOver
-tally-append f cut t [] b = sym (none-added (tallyOver f cut t b))
-tally-append f cut t (s ∷ a) b =
-    ap (added (tallyOne f cut t s)) (tally-append f cut t a b) ∙ sym (added-assoc (tallyOne f cut t s) (tallyOver f cut t a) (tallyOver f cut t b))
+pub sums-append : (g : Stretch → Sums) (a b : List Stretch) → sumsOver g (a ++ b) ≡ added (sumsOver g a) (sumsOver g b)
+unfolding sumsOver
+sums-append g [] b = sym (none-added (sumsOver g b))
+sums-append g (s ∷ a) b = ap (added (g s)) (sums-append g a b) ∙ sym (added-assoc (g s) (sumsOver g a) (sumsOver g b))
 
 -- ---- bounds
 
-pub record Small (t : Tally) (n : ℕ) : Type 0 where
-  pub radials : t .radials ≤ 1
-  pub gates : totalOf (t .counts) ≤ n
+pub record Small (x : Sums) (n : ℕ) : Type 0 where
+  pub radials : x .radials ≤ 1
+  pub blanks : x .blanks ≤ 1
+  pub gates : totalOf (x .counts) ≤ n
 
-none-small : (n : ℕ) → Small noTally n
+none-small : (n : ℕ) → Small noSums n
 unfolding countOf
-none-small n = record { radials = omega arith; gates = omega arith }
+none-small n = record { radials = omega arith; blanks = omega arith; gates = omega arith }
 
 data-le : (b : List ℕ) (p : ℕ) → length (dataAt b p) ≤ length b
 unfolding dataAt
@@ -69,81 +74,93 @@ carried-small b (At s p) =
     let c = counts-all (codingOf h) (codesOf (h .«bin_length») (dataAt b p)) in
     let l = codes-le (h .«bin_length») (dataAt b p) in
     let d = data-le b p in
-    record { radials = omega arith; gates = omega arith }
+    record { radials = omega arith; blanks = go (eqb (radialAt b 0 .«spot_blank») 1); gates = omega arith }
+  where
+    go : (z : Bool) → cond z 1 0 ≤ 1
+    go true = omega arith
+    go false = omega arith
 
 own-le : (f : List ℕ) (s : Stretch) → length (bytesOf f s) ≤ s .end - s .start
 own-le f s = simp length-take (omega arith)
 
-pub one-small : (f : List ℕ) (cut t : ℕ) (s : Stretch) → Small (tallyOne f cut t s) (s .end - s .start)
-one-small f cut t s = go (eqb (s .cut) cut)
+pub one-small : (f : List ℕ) (cut t : ℕ) (w : Wedge) (s : Stretch) → Small (tallyOne f cut t w s) (s .end - s .start)
+one-small f cut t w s = go (isCounted f cut w s)
   where
-    go : (b : Bool) → Small (cond b (carried (bytesOf f s) (momentIn f t s)) noTally) (s .end - s .start)
+    go : (b : Bool) → Small (cond b (carried (bytesOf f s) (momentIn f t s)) noSums) (s .end - s .start)
     go true =
         let c = carried-small (bytesOf f s) (momentIn f t s) in
         let l = own-le f s in
         let g = c .gates in
-        record { radials = c .radials; gates = omega arith }
+        record { radials = c .radials; blanks = c .blanks; gates = omega arith }
     go false = none-small (s .end - s .start)
 
 -- ---- the loop over whole radials: what it has counted where its walk is
 
-pub record Counting (f : List ℕ) (cut t : ℕ) (w : Walk) (so : Tally) : Type 0 where
-  pub between : Between (w .due)
-  pub within : w .at ≤ length f
-  pub radials : so .radials ≤ w .at
-  pub gates : totalOf (so .counts) ≤ w .at
-  pub stop : last (fuel f) f w ≡ stop f
-  pub sum : added so (tallyOver f cut t (trace (fuel f) f w)) ≡ tallyOf f cut t
+module _ (f : List ℕ) (cut t : ℕ) (wedge : Wedge) where
+  pub record Counting (w : Walk) (so : Sums) : Type 0 where
+    pub between : Between (w .due)
+    pub within : w .at ≤ length f
+    pub radials : so .radials ≤ w .at
+    pub blanks : so .blanks ≤ w .at
+    pub gates : totalOf (so .counts) ≤ w .at
+    pub stop : last (fuel f) f w ≡ stop f
+    pub sum : added so (sumsOver (tallyOne f cut t wedge) (trace (fuel f) f w)) ≡ tallyOf f cut t wedge .sums
 
-pub counting-none : (f : List ℕ) (cut t : ℕ) → Counting f cut t atStart noTally
-unfolding Between countOf
-counting-none f cut t =
-    record {
-      between = tt;
-      within = omega arith;
-      radials = omega arith;
-      gates = omega arith;
-      stop = refl;
-      sum = none-added (tallyOf f cut t);
-    }
-
-module _ (f : List ℕ) (cut t : ℕ) (w : Walk) (so : Tally) (c : Counting f cut t w so) where
-  -- a further radial: its stretch starts where the walk is, or later
-  pub record Adds (s : Stretch) (n : Walk) : Type 0 where
-    pub radials : so .radials + tallyOne f cut t s .radials ≤ n .at
-    pub gates : totalOf (so .counts) + totalOf (tallyOne f cut t s .counts) ≤ n .at
-    pub next : Counting f cut t n (added so (tallyOne f cut t s))
-
-  pub counting-turn : (s : Stretch) (n : Walk) → advanceOf f w ≡ Whole s n → Adds s n
-  unfolding tallyOver
-  counting-turn s n e =
-      let x = further f w s n e in
-      let o = outside f w s n (c .between) e in
-      let m = one-small f cut t s in
-      let r : so .radials + tallyOne f cut t s .radials ≤ n .at =
-      omega (arith, x .end, o .from, o .end, m .radials, c .radials) in
-      let g : totalOf (so .counts) + totalOf (tallyOne f cut t s .counts) ≤ n .at =
-      omega (arith, x .end, o .from, o .end, m .gates, c .gates) in
+  pub counting-none : Counting atStart noSums
+  unfolding Between countOf
+  counting-none =
       record {
-        radials = r;
-        gates = g;
-        next =
-            record {
-              between = between-next f w s n e;
-              within = x .within;
-              radials = r;
-              gates = omega arith;
-              stop = sym (x .stop) ∙ c .stop;
-              sum =
-                  added-assoc so (tallyOne f cut t s) (tallyOver f cut t (trace (fuel f) f n))
-                  ∙ ap (λ (l : List Stretch). added so (tallyOver f cut t l)) (sym (x .more))
-                  ∙ c .sum;
-            };
+        between = tt;
+        within = omega arith;
+        radials = omega arith;
+        blanks = omega arith;
+        gates = omega arith;
+        stop = refl;
+        sum = none-added (tallyOf f cut t wedge .sums);
       }
 
-  pub counting-ends : (v : Walk) → advanceOf f w ≡ Stopped v → (v ≡ stop f) × (so ≡ tallyOf f cut t)
-  unfolding tallyOver
-  counting-ends v e = (
-    sym (stopped f w v e) ∙ c .stop,
-    sym (added-none so) ∙ ap (λ (l : List Stretch). added so (tallyOver f cut t l)) (sym (no-more f w v e)) ∙ c .sum,
-  )
+  module _ (w : Walk) (so : Sums) (c : Counting w so) where
+    -- a further radial: its stretch starts where the walk is, or later
+    pub record Adds (s : Stretch) (n : Walk) : Type 0 where
+      pub radials : so .radials + tallyOne f cut t wedge s .radials ≤ n .at
+      pub blanks : so .blanks + tallyOne f cut t wedge s .blanks ≤ n .at
+      pub gates : totalOf (so .counts) + totalOf (tallyOne f cut t wedge s .counts) ≤ n .at
+      pub next : Counting n (added so (tallyOne f cut t wedge s))
+
+    pub counting-turn : (s : Stretch) (n : Walk) → advanceOf f w ≡ Whole s n → Adds s n
+    unfolding sumsOver
+    counting-turn s n e =
+        let x = further f w s n e in
+        let o = outside f w s n (c .between) e in
+        let m = one-small f cut t wedge s in
+        let r : so .radials + tallyOne f cut t wedge s .radials ≤ n .at =
+        omega (arith, x .end, o .from, o .end, m .radials, c .radials) in
+        let k : so .blanks + tallyOne f cut t wedge s .blanks ≤ n .at =
+        omega (arith, x .end, o .from, o .end, m .blanks, c .blanks) in
+        let g : totalOf (so .counts) + totalOf (tallyOne f cut t wedge s .counts) ≤ n .at =
+        omega (arith, x .end, o .from, o .end, m .gates, c .gates) in
+        record {
+          radials = r;
+          blanks = k;
+          gates = g;
+          next =
+              record {
+                between = between-next f w s n e;
+                within = x .within;
+                radials = r;
+                blanks = k;
+                gates = omega arith;
+                stop = sym (x .stop) ∙ c .stop;
+                sum =
+                    added-assoc so (tallyOne f cut t wedge s) (sumsOver (tallyOne f cut t wedge) (trace (fuel f) f n))
+                    ∙ ap (λ (l : List Stretch). added so (sumsOver (tallyOne f cut t wedge) l)) (sym (x .more))
+                    ∙ c .sum;
+              };
+        }
+
+    pub counting-ends : (v : Walk) → advanceOf f w ≡ Stopped v → (v ≡ stop f) × (so ≡ tallyOf f cut t wedge .sums)
+    unfolding sumsOver
+    counting-ends v e = (
+      sym (stopped f w v e) ∙ c .stop,
+      sym (added-none so) ∙ ap (λ (l : List Stretch). added so (sumsOver (tallyOne f cut t wedge) l)) (sym (no-more f w v e)) ∙ c .sum,
+    )

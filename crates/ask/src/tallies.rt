@@ -1,22 +1,37 @@
-// The tally of a cut and a type: how many whole radials carry the type, and the kinds of their gates.
+// The tally of a cut and a type in a wedge: how many whole radials there carry the type, how many of them have a spot blank, and
+// the kinds of their gates.
+ghost use mathlib.Core.Bool.{cond};
 ghost use mathlib.Core.Path.{_≡_};
 ghost use Prim.Native.Nat.{_+_, _<_, _^_};
+ghost use lib.Dec.{eqb};
+ghost use Rattle.radial.specs.Radial.{radialAt};
 ghost use Rattle.gates.specs.Counting.{totalOf};
-ghost use Rattle.ask.specs.Tallies.{noTally, added, tallyOne, cutAccepted, toldTally, tallyTold, tallyAnswer};
+ghost use Rattle.reading.specs.Reading.{stop};
+ghost use Rattle.ask.specs.Tallies.{noSums, added, carried, tallyOne, tallyOf, cutAccepted, toldTally, tallyTold, tallyAnswer};
 use crate::answers;
 use crate::places;
 use crate::places::Where;
 use cut::Cut;
 use gates::Counts;
 use moment::Moment;
+use radial::Radial;
 use reading::Onward;
 use reading::Stretch;
 use walk::due::Walk;
 use walk::due::cut_place;
+use wedge::Wedge;
 
-pub struct Tally {
+// What is counted: the radials, those of them whose spot blank is 1, and the gates by their kinds.
+pub struct Sums {
     pub radials: u64,
+    pub blanks: u64,
     pub counts: Counts,
+}
+
+// The wedge as it was asked, and what was counted in it.
+pub struct Tally {
+    pub wedge: Wedge,
+    pub sums: Sums,
 }
 
 pub enum TallyAnswer {
@@ -24,28 +39,36 @@ pub enum TallyAnswer {
     Refused(u32),
 }
 
-fn none() -> Tally
-    ensures { λ r. ⌜ r ≡ noTally ⌝ }
+fn none() -> Sums
+    ensures { λ r. ⌜ r ≡ noSums ⌝ }
 {
-    Tally {
+    Sums {
         radials: 0,
+        blanks: 0,
         counts: Counts::none(),
     }
 }
 
-// What a whole radial adds to the tally of a cut and type.
-fn one(file: &[u8], cut: u32, t: u32, s: Stretch) -> Tally
-    ensures { λ r. ⌜ r ≡ tallyOne (now (file .entry)) cut t s ⌝ }
+// 1 where a radial's spot blank is 1.
+fn blank(b: &[u8]) -> u64
+    ensures { λ r. ⌜ r ≡ cond (eqb (radialAt (now (b .entry)) 0 .«spot_blank») 1) 1 0 ⌝ }
 {
-    if s.cut != cut {
-        return none();
+    if le::u32_at(b, Radial::SPOT_BLANK) == 1 {
+        return 1;
     }
-    let b = reading::own(file, s);
-    match places::in_stretch(b, s, t) {
+    0
+}
+
+// What a radial adds by the moment that was found in it.
+fn carry(b: &[u8], at: Where) -> Sums
+    ensures { λ r. ⌜ r ≡ carried (now (b .entry)) at ⌝ }
+{
+    match at {
         Where::At(_, p) => {
             let h = Moment::read(b, p);
-            Tally {
+            Sums {
                 radials: 1,
+                blanks: blank(b),
                 counts: gates::counts_of(moments::data(b, p), h.bin_length, answers::coding(h)),
             }
         }
@@ -54,15 +77,31 @@ fn one(file: &[u8], cut: u32, t: u32, s: Stretch) -> Tally
     }
 }
 
+// What a whole radial adds to the tally of a cut and type in a wedge. In one of another cut or outside the wedge no moment is
+// looked for.
+fn one(file: &[u8], cut: u32, t: u32, wedge: Wedge, s: Stretch) -> Sums
+    ensures { λ r. ⌜ r ≡ tallyOne (now (file .entry)) cut t wedge s ⌝ }
+{
+    if s.cut != cut {
+        return none();
+    }
+    let b = reading::own(file, s);
+    if wedge.holds(le::u32_at(b, Radial::AZIMUTH)) {
+        return carry(b, places::in_stretch(b, s, t));
+    }
+    none()
+}
+
 // The caller has seen that no sum is too large.
-fn plus(a: Tally, b: Tally) -> Tally
-    requires { ⌜ (a .radials + b .radials < 2 ^ 64) × (totalOf (a .counts) + totalOf (b .counts) < 2 ^ 64) ⌝ }
+fn plus(a: Sums, b: Sums) -> Sums
+    requires { ⌜ (a .radials + b .radials < 2 ^ 64) × ((a .blanks + b .blanks < 2 ^ 64) × (totalOf (a .counts) + totalOf (b .counts) < 2 ^ 64)) ⌝ }
     ensures { λ r. ⌜ r ≡ added a b ⌝ }
 {
     let x = a.counts;
     let y = b.counts;
-    Tally {
+    Sums {
         radials: a.radials + b.radials,
+        blanks: a.blanks + b.blanks,
         counts: Counts {
             below: x.below + y.below,
             folded: x.folded + y.folded,
@@ -92,7 +131,7 @@ fn told(accepted: bool, t: Tally) -> TallyAnswer
     ensures { λ r. ⌜ toldTally r ≡ tallyTold accepted t ⌝ }
 {
     if accepted {
-        if t.radials == 0 {
+        if t.sums.radials == 0 {
             return TallyAnswer::Refused(31);
         }
         return TallyAnswer::Counted(t);
@@ -101,20 +140,36 @@ fn told(accepted: bool, t: Tally) -> TallyAnswer
 }
 
 // One pass over the whole radials.
-pub fn tally_of(file: &[u8], cut: u32, t: u32) -> TallyAnswer
-    ensures { λ r. ⌜ toldTally r ≡ tallyAnswer (now (file .entry)) cut t ⌝ }
+fn tally_in(file: &[u8], cut: u32, t: u32, wedge: Wedge) -> TallyAnswer
+    ensures { λ r. ⌜ toldTally r ≡ tallyTold (cutAccepted (stop (now (file .entry))) cut) (tallyOf (now (file .entry)) cut t wedge) ⌝ }
 {
     let mut w = Walk::begin();
     let mut so_far = none();
     loop {
         match reading::advance(file, w) {
             Onward::Whole(s, n) => {
-                so_far = plus(so_far, one(file, cut, t, s));
+                so_far = plus(so_far, one(file, cut, t, wedge, s));
                 w = n;
             }
             Onward::Stopped(v) => {
-                return told(accepted(v, cut), so_far);
+                return told(
+                    accepted(v, cut),
+                    Tally {
+                        wedge,
+                        sums: so_far,
+                    },
+                );
             }
         }
     }
+}
+
+// The tally of a cut and a type in a wedge; from 0 to 0, or between any other two equal ends, of the whole cut.
+pub fn tally_of(file: &[u8], cut: u32, t: u32, wedge: Wedge) -> TallyAnswer
+    ensures { λ r. ⌜ toldTally r ≡ tallyAnswer (now (file .entry)) cut t wedge ⌝ }
+{
+    if wedge.ok() {
+        return tally_in(file, cut, t, wedge);
+    }
+    TallyAnswer::Refused(61)
 }

@@ -5,7 +5,7 @@ use mathlib.Core.List.{List, [], _∷_, _++_}
 use lib.ListN.{length}
 use lib.IntN.{pos, negsuc}
 use Rattle.le.specs.Le.{le, bytes, part, run, int}
-use Rattle.rules.specs.Ranges.{among, angle, counts, is, mostRadials, mostSequence, notBelowZero}
+use Rattle.rules.specs.Ranges.{among, angle, counts, is, isAzimuth, mostRadials, mostSequence, notBelowZero}
 use Rattle.rules.specs.States.{stateOk}
 use Rattle.rules.specs.Tiling.{momentNumberOk}
 use Rattle.radial.specs.declared.Radial.{Radial}
@@ -74,7 +74,7 @@ radialRules r d =
     -- elevation number (table 3-1): the cut's number
     ∷ rule 16 14 (is (d .cut) (int (r .«elevation_number»)))
     -- azimuth (table 3-1): 0..360
-    ∷ rule 20 15 (angle (pos 0) (pos 360) (r .azimuth))
+    ∷ rule 20 15 (isAzimuth (r .azimuth))
     -- elevation (table 3-1): -2..90
     ∷ rule 24 16 (angle (negsuc 1) (pos 90) (r .elevation))
     -- seconds (table 3-1): not below 0

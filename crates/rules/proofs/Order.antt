@@ -103,7 +103,7 @@ mag-small : (m : ℕ) → m < 8388608 → mag m ≡ m
 unfolding mag
 mag-small m h = rw (lt-ltb m 8388608 h)
 
-mag-normal : (m : ℕ) → 8388608 ≤ m → mag m ≡ (8388608 + m % 8388608) * 2 ^ (m / 8388608 - 1)
+pub mag-normal : (m : ℕ) → 8388608 ≤ m → mag m ≡ (8388608 + m % 8388608) * 2 ^ (m / 8388608 - 1)
 unfolding mag
 mag-normal m h = rw (le-ltb m 8388608 h)
 
@@ -117,7 +117,7 @@ ceiling m h =
     rw (mag-normal m h, pow-succ' 2 (m / 8388608 - 1), ← mul-assoc 8388608 2 (2 ^ (m / 8388608 - 1)))
     (mul-lt-mul-of-pos-right (omega arith) (pow-pos (m / 8388608 - 1)))
 
-mag-lt : (m n : ℕ) → m < n → mag m < mag n
+pub mag-lt : (m n : ℕ) → m < n → mag m < mag n
 mag-lt m n h =
     dite (decLt n 8388608) (λ k. rw (mag-small m (omega arith), mag-small n k) h)
     (λ k. dite (decLt m 8388608)
@@ -134,11 +134,11 @@ mag-leb m n =
     (λ k. let e : m ≡ n = omega arith in rw e (le-leb (mag n) (mag n) (omega arith) ∙ sym (le-leb n n (omega arith)))))
 
 -- ---- what a pattern stands for
-ofBits-is : (b m : ℕ) (s : Bool) → leb 2147483648 b ≡ s → b % 2147483648 ≡ m → ofBits binary32 b ≡ ofFields binary32 s (m / 8388608) (m % 8388608)
+pub ofBits-is : (b m : ℕ) (s : Bool) → leb 2147483648 b ≡ s → b % 2147483648 ≡ m → ofBits binary32 b ≡ ofFields binary32 s (m / 8388608) (m % 8388608)
 unfolding ofBits
 ofBits-is b m s es em = let et : b % 8388608 ≡ m % 8388608 = omega arith in rw (es, em, et)
 
-finite : (s : Bool) (m : ℕ) → m < 2139095040 → HasValue (ofFields binary32 s (m / 8388608) (m % 8388608)) s (mag m) (2 ^ 149)
+pub finite : (s : Bool) (m : ℕ) → m < 2139095040 → HasValue (ofFields binary32 s (m / 8388608) (m % 8388608)) s (mag m) (2 ^ 149)
 unfolding ofFields
 finite s m h =
     dite (decLt m 8388608)

@@ -43,6 +43,10 @@ between lo hi x = le lo x && le x hi
 unfoldable pub angle : ℤ → ℤ → ℕ → Bool
 angle lo hi bits = between (ofInt binary32 lo) (ofInt binary32 hi) (ofBits binary32 bits)
 
+-- number 15: 0..360. What lies in a wedge (document 02, #114) is an azimuth first
+abbrev pub isAzimuth : ℕ → Bool
+isAzimuth bits = angle (pos 0) (pos 360) bits
+
 -- the same four on the bits alone (document 02, #105). Up to the infinities a single's size goes up with its bits, as whole
 -- numbers; so a range that holds zero is two runs of bits: with the sign clear from plus zero to the bits of its upper end, with
 -- the sign set from minus zero to those of its lower end. An infinity and a NaN lie past every end.
