@@ -14,13 +14,14 @@ use Rattle.gates.specs.Telling.{refused, answered}
 use Rattle.le.proofs.Laws.{part-in}
 use Rattle.radial.specs.Radial.{radialOf, radialAt}
 use Rattle.wedge.specs.declared.Wedge.{Wedge}
+use Rattle.wedge.specs.Wedge.{wedgeOk}
 use Rattle.moments.specs.declared.Found as moment
 use Rattle.moments.specs.Moments.{momentsOf, findIn}
 use Rattle.reading.specs.declared.Found.{Found}
 use Rattle.reading.specs.declared.Found.the-variants as found
 use Rattle.reading.specs.declared.Stretch.{Stretch}
 use Rattle.reading.specs.Growth.{Same, Grows}
-use Rattle.reading.specs.Reading.{stretches, nth, bytesOf}
+use Rattle.reading.specs.Reading.{stop, stretches, nth, bytesOf}
 use Rattle.reading.proofs.Grown.{grows}
 use Rattle.ask.specs.declared.places.Where.{Where}
 use Rattle.ask.specs.declared.places.Where.the-variants.{At}
@@ -29,9 +30,9 @@ use Rattle.ask.specs.declared.tallies.Tally.{Tally}
 use Rattle.ask.specs.Answers.{radialTold, momentTold, dataTold, gateTold, RowTold}
 use Rattle.ask.specs.Growth.{gateAsked, rowAsked, Kept, AnswersGrow}
 use Rattle.ask.specs.Places.{inStretch, momentIn, inFound, whereIs}
-use Rattle.ask.specs.Tallies.{added, tallyOne, sumsOver, tallyOf, tallyTold, tallyAnswer}
+use Rattle.ask.specs.Tallies.{added, tallyOne, sumsOver, tallyOf, cutAccepted, tallyAnswer}
 use Rattle.ask.proofs.Growing.{nth-kept, nth-of, nth-placed, sums-same, accepted-kept, no-fewer}
-use Rattle.ask.proofs.Tallying.{sums-append}
+use Rattle.ask.proofs.Tallying.{sums-append, told-31, told-61, told-counted, told-either, told-some}
 
 module _ (A C : List ℕ) (some : 0 < length C) where
   -- ---- a radial that is whole in A
@@ -123,56 +124,18 @@ module _ (A C : List ℕ) (some : 0 < length C) where
             ∙ ap (λ (x : Sums). added x (sumsOver g (h .later))) (sums-same A C cut t w (stretches A) (h .bytes)),
       )
 
-  told-31 : (o b : Bool) (x : Tally) → cond o (tallyTold b x) (refused 61 0) ≡ refused 31 0 → (o ≡ true) × (b ≡ true)
-  unfolding tallyTold
-  told-31 true true x e = (refl, refl)
-  told-31 true false x e = absurd (let z : _≡_ {A = ℕ} 30 31 = cc in omega arith)
-  told-31 false b x e = absurd (let z : _≡_ {A = ℕ} 61 31 = cc in omega arith)
-
-  told-61 : (o b : Bool) (x : Tally) → cond o (tallyTold b x) (refused 61 0) ≡ refused 61 0 → o ≡ false
-  unfolding tallyTold
-  told-61 true true x e = absurd (go (eqb (x .sums .radials) 0) e)
-    where
-      go : (z : Bool) → cond z (refused 31 0) (answered x) ≡ refused 61 0 → ⊥
-      go true q = let z : _≡_ {A = ℕ} 31 61 = cc in omega arith
-      go false q = let z : _≡_ {A = ℕ} 0 1 = cc in omega arith
-  told-61 true false x e = absurd (let z : _≡_ {A = ℕ} 30 61 = cc in omega arith)
-  told-61 false b x e = refl
-
-  told-counted : (o b : Bool) (x a : Tally) → cond o (tallyTold b x) (refused 61 0) ≡ answered a → (o ≡ true) × ((b ≡ true) × ((x ≡ a) × (x .sums .radials ≡ 0 → ⊥)))
-  unfolding tallyTold
-  told-counted true true x a e = go (eqb (x .sums .radials) 0) refl
-    where
-      go : (z : Bool) → eqb (x .sums .radials) 0 ≡ z → (true ≡ true) × ((true ≡ true) × ((x ≡ a) × (x .sums .radials ≡ 0 → ⊥)))
-      go true z = let e1 : cond true (refused 31 0) (answered x) ≡ answered a = rw z at e in absurd (let y : _≡_ {A = ℕ} 0 1 = cc in omega arith)
-      go false z = let e1 : cond false (refused 31 0) (answered x) ≡ answered a = rw z at e in (refl, (refl, (cc, eqb-false (x .sums .radials) 0 z)))
-  told-counted true false x a e = absurd (let y : _≡_ {A = ℕ} 0 1 = cc in omega arith)
-  told-counted false b x a e = absurd (let y : _≡_ {A = ℕ} 0 1 = cc in omega arith)
-
-  told-either : (x : Tally) → (tallyTold true x ≡ refused 31 0) ⊎ ((b : Tally) × (tallyTold true x ≡ answered b))
-  unfolding tallyTold
-  told-either x = go (eqb (x .sums .radials) 0)
-    where
-      go : (z : Bool) → (cond z (refused 31 0) (answered x) ≡ refused 31 0) ⊎ ((b : Tally) × (cond z (refused 31 0) (answered x) ≡ answered b))
-      go true = inl refl
-      go false = inr (x, refl)
-
-  told-some : (x : Tally) → (x .sums .radials ≡ 0 → ⊥) → tallyTold true x ≡ answered x
-  unfolding tallyTold
-  told-some x h = rw (ne-eqb (x .sums .radials) 0 h)
-
   pub answers-grow : AnswersGrow A C
   unfolding tallyAnswer
   answers-grow =
       record {
         whole = λ n s e. kept n s e;
         gate = λ n t i. gate-grows n t i (nth (stretches A) n) refl;
-        no-wedge = λ cut t w e. rw (told-61 _ _ _ e);
+        no-wedge = λ cut t w e. rw (told-61 (wedgeOk w) (cutAccepted (stop A) cut) (tallyOf A cut t w) e);
         uncounted = λ cut t w e.
-            let k = told-31 _ _ _ e in
+            let k = told-31 (wedgeOk w) (cutAccepted (stop A) cut) (tallyOf A cut t w) e in
             rw (k .0, accepted-kept A C cut (k .1)) (told-either (tallyOf (A ++ C) cut t w));
         counted = λ cut t w a e.
-            let c = told-counted _ _ _ a e in
+            let c = told-counted (wedgeOk w) (cutAccepted (stop A) cut) (tallyOf A cut t w) a e in
             let g = sums-grown cut t w in
             let x = c .1 .1 .0 in
             let more : (tallyOf (A ++ C) cut t w .sums .radials ≡ 0 → ⊥) = λ z. c .1 .1 .1 (let r = ap (λ (y : Sums). y .radials) (g .1) in omega arith) in (

@@ -4,14 +4,19 @@ use native.Mathlib.Nat.{add-assoc, add-comm, add-zero, zero-add}
 use native.Mathlib.Omega.{arith}
 use mathlib.Core.Bool.{Bool, true, false, cond}
 use mathlib.Core.List.{List, [], _∷_, _++_}
+use mathlib.Core.Logic.{_⊎_, inl, inr}
 use mathlib.Core.Path.{_≡_, refl, sym, ap, _∙_}
+use borrow.Author.Tests.{eqb-false, ne-eqb}
 use lib.Dec.{eqb}
 use lib.ListN.{length, length-take, length-drop}
+use Rattle.le.specs.Le.{le}
+use Rattle.le.proofs.Laws.{le-part}
 use Rattle.moment.specs.Moment.{momentAt}
-use Rattle.radial.specs.Radial.{radialAt}
+use Rattle.radial.specs.Radial.{radialOf, radialAt}
 use Rattle.wedge.specs.declared.Wedge.{Wedge}
 use Rattle.gates.specs.Codes.{codesOf}
 use Rattle.gates.specs.Counting.{countOf, totalOf}
+use Rattle.gates.specs.Telling.{refused, answered}
 use Rattle.gates.proofs.Codes.{codes-le}
 use Rattle.gates.proofs.Counting.{counts-all}
 use Rattle.moments.specs.Moments.{dataAt}
@@ -25,9 +30,10 @@ use Rattle.reading.proofs.Radials.{Between, outside, between-next}
 use Rattle.ask.specs.declared.places.Where.{Where}
 use Rattle.ask.specs.declared.places.Where.the-variants.{At, NoRadial, NoMoment}
 use Rattle.ask.specs.declared.tallies.Sums.{Sums}
+use Rattle.ask.specs.declared.tallies.Tally.{Tally}
 use Rattle.ask.specs.Answers.{codingOf}
 use Rattle.ask.specs.Places.{momentIn}
-use Rattle.ask.specs.Tallies.{noSums, added, carried, isCounted, tallyOne, sumsOver, tallyOf}
+use Rattle.ask.specs.Tallies.{noSums, added, carried, isCounted, tallyOne, sumsOver, tallyOf, tallyTold}
 
 -- ---- sums
 
@@ -49,6 +55,16 @@ pub sums-append : (g : Stretch → Sums) (a b : List Stretch) → sumsOver g (a 
 unfolding sumsOver
 sums-append g [] b = sym (none-added (sumsOver g b))
 sums-append g (s ∷ a) b = ap (added (g s)) (sums-append g a b) ∙ sym (added-assoc (g s) (sumsOver g a) (sumsOver g b))
+
+-- ---- a field of a header is the number at the field's place
+
+pub blank-is : (b : List ℕ) → radialAt b 0 .«spot_blank» ≡ le 4 b 4
+unfolding radialAt radialOf
+blank-is b = le-part 4 64 b 0 4 (omega arith)
+
+pub azimuth-is : (b : List ℕ) → radialAt b 0 .azimuth ≡ le 4 b 20
+unfolding radialAt radialOf
+azimuth-is b = le-part 4 64 b 0 20 (omega arith)
 
 -- ---- bounds
 
@@ -164,3 +180,43 @@ module _ (f : List ℕ) (cut t : ℕ) (wedge : Wedge) where
       sym (stopped f w v e) ∙ c .stop,
       sym (added-none so) ∙ ap (λ (l : List Stretch). added so (sumsOver (tallyOne f cut t wedge) l)) (sym (no-more f w v e)) ∙ c .sum,
     )
+
+-- ---- what is told of a tally, whether the wedge is in range and whether the cut is accepted
+
+pub told-31 : (o b : Bool) (x : Tally) → cond o (tallyTold b x) (refused 61 0) ≡ refused 31 0 → (o ≡ true) × (b ≡ true)
+unfolding tallyTold
+told-31 true true x e = (refl, refl)
+told-31 true false x e = absurd (let z : _≡_ {A = ℕ} 30 31 = cc in omega arith)
+told-31 false b x e = absurd (let z : _≡_ {A = ℕ} 61 31 = cc in omega arith)
+
+pub told-61 : (o b : Bool) (x : Tally) → cond o (tallyTold b x) (refused 61 0) ≡ refused 61 0 → o ≡ false
+unfolding tallyTold
+told-61 true true x e = absurd (go (eqb (x .sums .radials) 0) e)
+  where
+    go : (z : Bool) → cond z (refused 31 0) (answered x) ≡ refused 61 0 → ⊥
+    go true q = let z : _≡_ {A = ℕ} 31 61 = cc in omega arith
+    go false q = let z : _≡_ {A = ℕ} 0 1 = cc in omega arith
+told-61 true false x e = absurd (let z : _≡_ {A = ℕ} 30 61 = cc in omega arith)
+told-61 false b x e = refl
+
+pub told-counted : (o b : Bool) (x a : Tally) → cond o (tallyTold b x) (refused 61 0) ≡ answered a → (o ≡ true) × ((b ≡ true) × ((x ≡ a) × (x .sums .radials ≡ 0 → ⊥)))
+unfolding tallyTold
+told-counted true true x a e = go (eqb (x .sums .radials) 0) refl
+  where
+    go : (z : Bool) → eqb (x .sums .radials) 0 ≡ z → (true ≡ true) × ((true ≡ true) × ((x ≡ a) × (x .sums .radials ≡ 0 → ⊥)))
+    go true z = let e1 : cond true (refused 31 0) (answered x) ≡ answered a = rw z at e in absurd (let y : _≡_ {A = ℕ} 0 1 = cc in omega arith)
+    go false z = let e1 : cond false (refused 31 0) (answered x) ≡ answered a = rw z at e in (refl, (refl, (cc, eqb-false (x .sums .radials) 0 z)))
+told-counted true false x a e = absurd (let y : _≡_ {A = ℕ} 0 1 = cc in omega arith)
+told-counted false b x a e = absurd (let y : _≡_ {A = ℕ} 0 1 = cc in omega arith)
+
+pub told-either : (x : Tally) → (tallyTold true x ≡ refused 31 0) ⊎ ((b : Tally) × (tallyTold true x ≡ answered b))
+unfolding tallyTold
+told-either x = go (eqb (x .sums .radials) 0)
+  where
+    go : (z : Bool) → (cond z (refused 31 0) (answered x) ≡ refused 31 0) ⊎ ((b : Tally) × (cond z (refused 31 0) (answered x) ≡ answered b))
+    go true = inl refl
+    go false = inr (x, refl)
+
+pub told-some : (x : Tally) → (x .sums .radials ≡ 0 → ⊥) → tallyTold true x ≡ answered x
+unfolding tallyTold
+told-some x h = rw (ne-eqb (x .sums .radials) 0 h)

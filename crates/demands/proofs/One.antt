@@ -1,15 +1,19 @@
 -- Demand 1: the refusals by computing the definitions on the case at hand, the rest by citing. Assumes nothing.
 use mathlib.Core.Bool.{Bool, true, false, cond}
 use mathlib.Core.List.{List}
+use mathlib.Core.Logic.{_↔_}
 use mathlib.Core.Path.{_≡_, refl, sym, ap, _∙_}
 use Prim.Native.Nat.{ℕ, _+_, _≤_}
 use native.Mathlib.Omega.{arith}
-use borrow.Author.Tests.{le-ltb, lt-leb, leb-false}
-use lib.Dec.{eqb, leb}
+use borrow.Author.Tests.{le-ltb, lt-leb, lt-ltb, ltb-true, leb-false}
+use lib.Dec.{eqb, leb, ltb}
 use lib.IntN.{ℤ}
 use lib.ListN.{length}
 use Rattle.le.specs.Le.{stored}
 use Rattle.le.proofs.Laws.{stored-no}
+use Rattle.le.proofs.Tests.{both}
+use Rattle.wedge.specs.declared.Wedge.{Wedge}
+use Rattle.wedge.specs.Wedge.{wedgeOk}
 use Rattle.gates.specs.declared.RowAnswer.{RowAnswer}
 use Rattle.gates.specs.declared.RowAnswer.the-variants as row
 use Rattle.gates.specs.Codes.{codesOf}
@@ -34,7 +38,7 @@ use Rattle.ask.specs.declared.places.Where.the-variants.{At, NoRadial, NoMoment
 use Rattle.ask.specs.declared.tallies.Tally.{Tally}
 use Rattle.ask.specs.Answers.{radialTold, momentTold, dataTold, codingOf, gateIn, gateTold, Unfilled, RowTold}
 use Rattle.ask.specs.Places.{inFound}
-use Rattle.ask.specs.Tallies.{tallyOf, cutAccepted, tallyTold}
+use Rattle.ask.specs.Tallies.{tallyOf, cutAccepted, tallyTold, tallyAnswer}
 use Rattle.ask.proofs.Asked.{as-asked}
 use Rattle.ask.proofs.Tellings.{told-gate-answer-one, told-tally-one, row-told-one}
 use Rattle.lent.specs.Lending.{lentOf, toldLent}
@@ -98,22 +102,37 @@ rows f at k k′ h h′ r =
     }
 
 -- the number in a lent record tells a refusal from a tally
-lent-told : (old : Tally) (accepted : Bool) (t : Tally) → toldLent (lentOf old (tallyTold accepted t)) ≡ tallyTold accepted t
+lent-told : (old : Tally) (range accepted : Bool) (t : Tally)
+    → toldLent (lentOf old (cond range (tallyTold accepted t) (refused 61 0))) ≡ cond range (tallyTold accepted t) (refused 61 0)
 unfolding tallyTold lentOf
-lent-told old true t = go (eqb (t .radials) 0)
+lent-told old true true t = go (eqb (t .sums .radials) 0)
   where
     go : (z : Bool) → toldLent (lentOf old (cond z (refused 31 0) (answered t))) ≡ cond z (refused 31 0) (answered t)
     go true = refl
     go false = refl
-lent-told old false t = refl
+lent-told old true false t = refl
+lent-told old false accepted t = refl
 
-tallies : (f : List ℕ) (cut t : ℕ) → Tallied f cut t
-unfolding tallyTold
-tallies f cut t =
+wedge-range : (w : Wedge) → (wedgeOk w ≡ true) ↔ ((w .start ≤ 35999) × (w .end ≤ 35999))
+unfolding wedgeOk
+wedge-range w = (
+  λ e.
+      let x = both (ltb (w .start) 36000) (ltb (w .end) 36000) e in
+      let a = ltb-true (w .start) 36000 (x .0) in
+      let b = ltb-true (w .end) 36000 (x .1) in
+      (omega arith, omega arith),
+  λ p. rw (lt-ltb (w .start) 36000 (omega (arith, p .0)), lt-ltb (w .end) 36000 (omega (arith, p .1))),
+)
+
+tallies : (f : List ℕ) (cut t : ℕ) (w : Wedge) → Tallied f cut t w
+unfolding tallyAnswer tallyTold
+tallies f cut t w =
     record {
-      tally-30 = λ e. rw e;
-      tally-31 = λ e z. rw (e, z);
-      lent = λ old. lent-told old (cutAccepted (stop f) cut) (tallyOf f cut t);
+      range = wedge-range w;
+      tally-61 = λ o. rw o;
+      tally-30 = λ o e. rw (o, e);
+      tally-31 = λ o e z. rw (o, e, z);
+      lent = λ old. lent-told old (wedgeOk w) (cutAccepted (stop f) cut) (tallyOf f cut t w);
     }
 
 indexes : (f : List ℕ) (room : ℕ) → Indexed f room

@@ -32,6 +32,7 @@ use Rattle.writer.proofs.Runs.{run-back}
 use Rattle.demands.proofs.Cuts.{many-cuts-hold}
 use Rattle.demands.proofs.Floats.{floats}
 use Rattle.demands.proofs.States.{state-rule}
+use Rattle.demands.proofs.Wedges.{wedges-hold}
 use Rattle.demands.specs.Two.{RefusedExactly, WholeRadials, Codes, Trips, Writing, IndexRight, DemandTwo}
 
 refused-exactly : RefusedExactly
@@ -102,6 +103,7 @@ demand-two =
       codes = codes;
       rows = row-shown;
       tallies = counted;
+      wedges = wedges-hold;
       trips = trips;
       writing = writing;
       index = index-right;

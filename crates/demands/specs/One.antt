@@ -4,11 +4,14 @@
 -- promise leaves a choice.
 use mathlib.Core.Bool.{true, false}
 use mathlib.Core.List.{List, [], _∷_}
+use mathlib.Core.Logic.{_↔_}
 use mathlib.Core.Path.{_≡_}
 use Prim.Native.Nat.{ℕ, _+_, _≤_, _<_}
 use lib.IntN.{ℤ}
 use lib.ListN.{length}
 use Rattle.le.specs.Le.{stored}
+use Rattle.wedge.specs.declared.Wedge.{Wedge}
+use Rattle.wedge.specs.Wedge.{wedgeOk}
 use Rattle.gates.specs.declared.Coding.{Coding}
 use Rattle.gates.specs.declared.Gate.{Gate}
 use Rattle.gates.specs.declared.RowAnswer.{RowAnswer}
@@ -75,12 +78,15 @@ pub record Row (f : List ℕ) (at : Where) (k k′ : List ℕ) (h h′ : List �
   pub row-33 : (s : Stretch) (p : ℕ) → at ≡ At s p → rooms (codesOf (momentAt (bytesOf f s) p .«bin_length») (dataAt (bytesOf f s) p)) k h ≡ false
       → RowTold f at k h r k′ h′ → toldRow r ≡ refused 33 0
 
--- a tally is refused by 30 where the cut's block is not accepted, then by 31 where no whole radial of the cut has the
--- type, both with place 0; through the lent record the caller is told the same
-pub record Tallied (f : List ℕ) (cut t : ℕ) : Type 0 where
-  pub tally-30 : cutAccepted (stop f) cut ≡ false → tallyAnswer f cut t ≡ refused 30 0
-  pub tally-31 : cutAccepted (stop f) cut ≡ true → tallyOf f cut t .radials ≡ 0 → tallyAnswer f cut t ≡ refused 31 0
-  pub lent : (old : Tally) → toldLent (lentOf old (tallyAnswer f cut t)) ≡ tallyAnswer f cut t
+-- a tally is refused by 61 where the wedge's start or end is not one of 0 to 35,999, whatever the cut; then by 30 where the cut's
+-- block is not accepted, then by 31 where no whole radial of the cut in the wedge has the type, each with place 0; through the lent
+-- record the caller is told the same
+pub record Tallied (f : List ℕ) (cut t : ℕ) (w : Wedge) : Type 0 where
+  pub range : (wedgeOk w ≡ true) ↔ ((w .start ≤ 35999) × (w .end ≤ 35999))
+  pub tally-61 : wedgeOk w ≡ false → tallyAnswer f cut t w ≡ refused 61 0
+  pub tally-30 : wedgeOk w ≡ true → cutAccepted (stop f) cut ≡ false → tallyAnswer f cut t w ≡ refused 30 0
+  pub tally-31 : wedgeOk w ≡ true → cutAccepted (stop f) cut ≡ true → tallyOf f cut t w .sums .radials ≡ 0 → tallyAnswer f cut t w ≡ refused 31 0
+  pub lent : (old : Tally) → toldLent (lentOf old (tallyAnswer f cut t w)) ≡ tallyAnswer f cut t w
 
 -- an index is refused by 36 where the file is not complete, then by 33 where the room is too short, both with place 0
 pub record Indexed (f : List ℕ) (room : ℕ) : Type 0 where
@@ -132,7 +138,7 @@ pub record DemandOne : Type 0 where
   pub endings : (f : List ℕ) → Ending f
   pub questions : (f : List ℕ) (n t : ℕ) → Questions f n t
   pub rows : (f : List ℕ) (at : Where) (k k′ : List ℕ) (h h′ : List ℤ) (r : RowAnswer) → Row f at k k′ h h′ r
-  pub tallies : (f : List ℕ) (cut t : ℕ) → Tallied f cut t
+  pub tallies : (f : List ℕ) (cut t : ℕ) (w : Wedge) → Tallied f cut t w
   pub indexes : (f : List ℕ) (room : ℕ) → Indexed f room
   pub writer : (b : Block) (w : Walk) (room : List ℕ) → WriterRefuses b w room
   pub unchanged : Unchanged

@@ -10,8 +10,8 @@ pub record Growth (A C : List ℕ) : Type 0 where
   -- radials and verdicts: the whole radials of A begin those of B, with the same bytes; refused stays refused, complete
   -- turns into refused 25 where A ended, open wants at least one byte, and what becomes of it with fewer or more
   pub reading : Grows A C
-  -- answers: each one on a radial whole in A is the same in B; what a gate's 30 and a tally may turn into; none of a tally's
-  -- seven counts falls
+  -- answers: each one on a radial whole in A is the same in B; what a gate's 30 and a tally may turn into; a tally keeps its wedge, and
+  -- none of its counts falls
   pub answers : AnswersGrow A C
 
 abbrev pub DemandThree : Type 0

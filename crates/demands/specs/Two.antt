@@ -21,6 +21,7 @@ use Rattle.moment.specs.Moment.{momentOf, momentBytes, MomentFits, momentSize}
 use Rattle.radial.specs.Radial.{radialOf, radialBytes, RadialFits, radialSize}
 use Rattle.site.specs.Site.{siteOf, siteBytes, SiteFits, siteSize}
 use Rattle.task.specs.Task.{taskOf, taskBytes, TaskFits, taskSize}
+use Rattle.wedge.specs.declared.Wedge.{Wedge}
 use Rattle.gates.specs.declared.Coding.{Coding}
 use Rattle.gates.specs.declared.RowAnswer.{RowAnswer}
 use Rattle.gates.specs.declared.Gate.the-variants.{BelowThreshold, RangeFolded, NotScanned, Unknown, Reserved, Value, Class}
@@ -49,6 +50,7 @@ use Rattle.writer.specs.Trips.{Fits, TakenWhen, Keeps, CopyOf, SameBlock, Run, 
 use Rattle.demands.specs.Cuts.{Cuts}
 use Rattle.demands.specs.Floats.{Floats}
 use Rattle.demands.specs.States.{StateRule}
+use Rattle.demands.specs.Wedges.{Wedges}
 
 -- What a volume is, `volume/Volume` says by the place of each block in the structure, with no word of how a file is read.
 -- `Means` (`volume/Meaning`): a file is the bytes of a volume exactly when reading tells that it is complete (`reads`,
@@ -102,10 +104,10 @@ pub record Codes : Type 0 where
 abbrev pub Rows : Type 0
 Rows = (f : List ℕ) (n t m : ℕ) (k k′ : List ℕ) (h h′ : List ℤ) (r : RowAnswer) → toldRow r ≡ answered m → RowTold f (whereIs f n t) k h r k′ h′ → Shown f n t m k′ h′
 
--- a tally counts what the gate question answers, each gate once, by its kind: the seven counts of a radial add up to its gates,
--- and those of a tally to the gates of its radials; a class is counted as a class alone
+-- a tally counts the radials of its cut and wedge, and what the gate question answers of them, each gate once, by its kind: the
+-- seven counts of a radial add up to its gates, and those of a tally to the gates of its radials; a class is counted as a class alone
 abbrev pub Tallies : Type 0
-Tallies = (f : List ℕ) (cut t : ℕ) → Counted f cut t
+Tallies = (f : List ℕ) (cut t : ℕ) (w : Wedge) → Counted f cut t w
 
 -- a record written and read again is the same record; a block's bytes read and written again are the same bytes
 pub record Trips : Type 0 where
@@ -154,6 +156,8 @@ pub record DemandTwo : Type 0 where
   pub codes : Codes
   pub rows : Rows
   pub tallies : Tallies
+  -- what lies in a wedge, and that a wedge and the wedge back add up to the full tally (`Wedges`)
+  pub wedges : Wedges
   pub trips : Trips
   pub writing : Writing
   pub index : IndexRight

@@ -1,6 +1,6 @@
 -- A hundred times the exact value of a single against a whole number: what the bits decide. Assumes nothing.
 use mathlib.Core.Path.{_≡_, refl, sym, ap, _∙_, subst}
-use mathlib.Core.Bool.{Bool, true, false, cond}
+use mathlib.Core.Bool.{Bool, true, false, true≢false}
 use mathlib.Core.Logic.{dite, _⊎_, inl, inr}
 use Prim.Native.Nat.{ℕ, _+_, _-_, _*_, _/_, _%_, _^_, _≤_, _<_}
 use native.Mathlib.Nat.{mul-one, mul-assoc, mul-le-mul-right, le-of-mul-le-mul-right, le-div-iff-mul-le, div-lt-iff-lt-mul, div-eq-of-lt, mul-div-mul-right, le-of-eq, mod-eq-of-lt}
@@ -8,7 +8,7 @@ use native.Mathlib.Decide.{decLt}
 use native.Mathlib.Omega.{arith}
 use lib.Dec.{leb, ltb, eqb, lit<, lit≤}
 use lib.Pow.{pow-pos, pow-add}
-use lib.Ieee.{Float, nan, inf, fin, binary32, up, down, ofBits, ofFields}
+use lib.Ieee.{Float, nan, inf, fin, binary32, up, down, ofBits}
 use lib.Ieee.Exact.{HasValue}
 use lib.Ieee.Fits.{down-pos}
 use borrow.Author.Tests.{lt-leb, leb-true, eq-eqb, ne-eqb, le-leb}
@@ -25,7 +25,7 @@ cross n d v a c D C e =
     (λ h. let k : n * d * c ≤ 100 * v * c = mul-le-mul-right c h in le-of-mul-le-mul-right {k = d} (omega arith) D)
     (λ h. let k : n * c * d ≤ 100 * a * d = mul-le-mul-right d h in le-of-mul-le-mul-right {k = c} (omega arith) C)
 
-pub by-value : (x : Float) (a c n : ℕ) → 0 < c → HasValue x false a c → reaches n x ≡ leb (n * c) (100 * a)
+by-value : (x : Float) (a c n : ℕ) → 0 < c → HasValue x false a c → reaches n x ≡ leb (n * c) (100 * a)
 unfolding reaches
 by-value nan a c n C v = absurd v
 by-value (inf t) a c n C v = absurd v
@@ -58,20 +58,17 @@ full : 100 * mag 0x43B4_0000 ≡ 36000 * 2 ^ 149
 unfolding mag
 full = refl
 
+-- up to 360 a pattern's size, in units of 2 ^ -149
+value : (b : ℕ) → b ≤ 0x43B4_0000 → HasValue (ofBits binary32 b) false (mag b) (2 ^ 149)
+value b h = rw (ofBits-is b b false (lt-leb 2147483648 b (omega arith)) (mod-eq-of-lt (omega arith))) (finite false b (omega arith))
+
 module _ (b : ℕ) (h : b < 0x43B4_0000) where
-  is-fields : ofBits binary32 b ≡ ofFields binary32 false (b / 8388608) (b % 8388608)
-  is-fields = ofBits-is b b false (lt-leb 2147483648 b (omega arith)) (mod-eq-of-lt (omega arith))
-
-  -- its size, in units of 2 ^ -149
-  pub value : HasValue (ofBits binary32 b) false (mag b) (2 ^ 149)
-  value = rw is-fields (finite false b (omega arith))
-
   -- below 360
   by-quotient : Whole (turned (ofBits binary32 b)) (100 * mag b / 2 ^ 149)
   by-quotient =
       kept _ (100 * mag b / 2 ^ 149)
       (div-lt-iff-lt-mul (pow-pos 149) .1 (more (mag b) (mag 0x43B4_0000) (36000 * 2 ^ 149) (mag-lt b 0x43B4_0000 h) (le-of-eq full)))
-      (whole _ (mag b) (2 ^ 149) (pow-pos 149) value)
+      (whole _ (mag b) (2 ^ 149) (pow-pos 149) (value b (omega arith)))
 
   -- below 2 ^ -7 degrees: no whole hundredth
   pub low : b < 0x3C00_0000 → Whole (turned (ofBits binary32 b)) 0
@@ -120,3 +117,25 @@ azimuths b e = go (leb b 0x43B4_0000) refl
         let l = leb-true 2147483648 b (a .0) in
         let u = leb-true b 2147483648 (a .1) in
         inr (omega arith)
+
+-- ---- an azimuth by any fraction that is its value: it has a sign only where it is minus zero
+
+one-sign : (x : Float) (s t : Bool) (a b c d : ℕ) → HasValue x s a c → HasValue x t b d → s ≡ t
+one-sign nan s t a b c d p q = absurd p
+one-sign (inf r) s t a b c d p q = absurd p
+one-sign (fin r m e) s t a b c d p q = sym (p .0) ∙ q .0
+
+minus-zero-by : (a c n : ℕ) → 0 < c → HasValue (ofBits binary32 0x8000_0000) true a c → reaches n (ofBits binary32 0x8000_0000) ≡ leb (n * c) (100 * a)
+unfolding reaches ofBits
+minus-zero-by a c n C v =
+    let none : a ≡ 0 = omega (arith, v .1) in
+    rw none
+    (none-but-zero n ∙ leb-same n 0 (n * c) 0 (λ h. let z : n ≡ 0 = omega arith in rw z (omega arith)) (λ h. le-of-mul-le-mul-right {k = c} (omega arith) C))
+
+pub by-fraction : (b a c : ℕ) (s : Bool) → azimuthBits b ≡ true → 0 < c → HasValue (ofBits binary32 b) s a c → (n : ℕ) → reaches n (ofBits binary32 b) ≡ leb (n * c) (100 * a)
+by-fraction b a c false is C v n = by-value (ofBits binary32 b) a c n C v
+by-fraction b a c true is C v n = go (azimuths b is)
+  where
+    go : (b ≤ 0x43B4_0000) ⊎ (b ≡ 0x8000_0000) → reaches n (ofBits binary32 b) ≡ leb (n * c) (100 * a)
+    go (inl h) = absurd (true≢false (one-sign (ofBits binary32 b) true false a (mag b) c (2 ^ 149) v (value b h)))
+    go (inr e) = rw e (minus-zero-by a c n C (subst (λ (x : ℕ). HasValue (ofBits binary32 x) true a c) e v))

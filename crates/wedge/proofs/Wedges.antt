@@ -1,17 +1,22 @@
 -- A wedge by the whole hundredths of a value; and that an azimuth lies in every full circle, and in one of a wedge and the wedge
 -- back. Assumes nothing.
-use mathlib.Core.Path.{_≡_, refl}
+use mathlib.Core.Path.{_≡_, refl, sym, _∙_}
 use mathlib.Core.Bool.{Bool, true, false, not, _&&_, _||_, cond}
 use mathlib.Core.Logic.{dite}
-use Prim.Native.Nat.{ℕ, _≤_, _<_}
+use Prim.Native.Nat.{ℕ, _*_, _^_, _≤_, _<_}
 use native.Mathlib.Decide.{decLt}
 use native.Mathlib.Omega.{arith}
 use lib.Dec.{leb, ltb}
-use lib.Ieee.{Float, binary32, ofBits}
+use lib.IntN.{pos}
+use lib.Ieee.{Float, fin, binary32, ofBits, ofInt, le, lt, eq}
+use lib.Ieee.Exact.{HasValue}
 use borrow.Author.Tests.{lt-ltb, le-ltb, le-leb, lt-leb}
-use Rattle.rules.specs.Ranges.{isAzimuth}
+use Rattle.rules.specs.Ranges as ranges
+use Rattle.rules.specs.Ranges.{angle, isAzimuth}
+use Rattle.rules.proofs.Four.{azimuth}
 use Rattle.wedge.specs.declared.Wedge.{Wedge}
 use Rattle.wedge.specs.Wedge.{reaches, Whole, turned, between, inWedge}
+use Rattle.wedge.proofs.Exact.{by-fraction}
 
 not-leb : (a b : ℕ) → not (leb a b) ≡ ltb b a
 not-leb a b = dite (decLt b a) (λ h. rw (lt-leb a b h, lt-ltb b a h)) (λ h. rw (le-leb a b (omega arith), le-ltb b a (omega arith)))
@@ -56,3 +61,30 @@ one-of a b bits d is =
     back true false = refl
     back false true = refl
     back false false = refl
+
+-- ---- an azimuth by any fraction a / c that is its value
+
+at-zero : (w : Wedge) → inWedge w 0 ≡ between (w .start) (w .end) (fin false 0 (pos 0))
+unfolding inWedge turned reaches angle ranges.between le lt eq ofBits ofInt
+at-zero w = refl
+
+module _ (w : Wedge) (bits a c : ℕ) (s : Bool) (fits : bits < 2 ^ 32) (is : isAzimuth bits ≡ true) (C : 0 < c) (v : HasValue (ofBits binary32 bits) s a c) where
+  reached : (n : ℕ) → reaches n (ofBits binary32 bits) ≡ leb (n * c) (100 * a)
+  reached = by-fraction bits a c s (sym (azimuth bits fits) ∙ is) C v
+
+  not-turned : a < 360 * c → turned (ofBits binary32 bits) ≡ ofBits binary32 bits
+  unfolding turned
+  not-turned h = rw (reached 36000, lt-leb (36000 * c) (100 * a) (omega arith))
+
+  pub lies-upwards : w .start < w .end → a < 360 * c → inWedge w bits ≡ (leb (w .start * c) (100 * a) && ltb (100 * a) (w .end * c))
+  unfolding inWedge between
+  lies-upwards l h = rw (is, not-turned h, lt-ltb (w .start) (w .end) l, reached (w .start), reached (w .end), not-leb (w .end * c) (100 * a))
+
+  pub lies-through : w .end ≤ w .start → a < 360 * c → inWedge w bits ≡ (leb (w .start * c) (100 * a) || ltb (100 * a) (w .end * c))
+  unfolding inWedge between
+  lies-through l h = rw (is, not-turned h, le-ltb (w .start) (w .end) l, reached (w .start), reached (w .end), not-leb (w .end * c) (100 * a))
+
+  -- 360 is turned, and 0 is what it was
+  pub lies-full : 360 * c ≤ a → inWedge w bits ≡ inWedge w 0
+  unfolding inWedge turned
+  lies-full h = rw (is, reached 36000, le-leb (36000 * c) (100 * a) (omega arith), at-zero w)
