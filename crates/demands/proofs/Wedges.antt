@@ -124,7 +124,7 @@ nothing f cut t a b p e =
 
 asked : (f : List ℕ) (cut t : ℕ) (w : Wedge) (x : Tally) → tallyAnswer f cut t w ≡ answered x → x .wedge ≡ w
 unfolding tallyAnswer
-asked f cut t w x e = ap (λ (y : Tally). y .wedge) (sym (told-counted _ _ _ x e .1 .1 .0))
+asked f cut t w x e = ap (λ (y : Tally). y .wedge) (sym (told-counted (wedgeOk w) (cutAccepted (stop f) cut) (tallyOf f cut t w) x e .1 .1 .0))
 
 pub wedges-hold : Wedges
 wedges-hold =

@@ -1,7 +1,8 @@
-// Asks of the first volume on standard input, of shortened and damaged copies of it, and of the volume that follows it, what is
-// told of radials, moments, gates, rows and tallies (document 01, "What reading tells"; document 02, #101, #103 and #105), and
+// Asks of the first volume on standard input, of shortened and damaged copies of it, and of the two volumes that follow it, what is
+// told of radials, moments, gates, rows and tallies (document 01, "What reading tells"; document 02, #101, #103, #105 and #114), and
 // prints the answers. The places named below are those of the volume `rich` of tools/volumes.py, of 2,535 bytes, eight radials and
-// three cuts; the volume behind it is `layers`, an RHI of six cuts with two radials each, and one more in the last.
+// three cuts; the volume behind it is `layers`, of 3,360 bytes, an RHI of six cuts with two radials each, and one more in the last;
+// the last one is `valley`, two cuts with a radial at each azimuth that a wedge may turn on.
 
 mod gates_told;
 mod lines;
@@ -120,9 +121,28 @@ fn damaged(label: &[u8], buf: &mut [u8; 65536], n: usize, place: usize, value: u
     exchange(buf, place, old);
 }
 
-// The volume behind the first n bytes.
-fn second(buf: &[u8; 65536], n: usize, end: usize) {
-    section(b"six layers", behind(first(buf, end), n));
+// Of a cut's types 1 and 2, of classes, and of a cut that is not there.
+fn wedges(file: &[u8]) {
+    tallies_told::print_wedges(file, 1, 1);
+    tallies_told::print_wedges(file, 1, 2);
+    tallies_told::print_wedges(file, 3, 14);
+    tallies_told::print_wedges(file, 4, 1);
+}
+
+// Of both cuts, of a type that two radials of a cut have, and of one that none has; of cuts that are not there.
+fn valley(file: &[u8]) {
+    tallies_told::print_wedges(file, 1, 2);
+    tallies_told::print_wedges(file, 2, 2);
+    tallies_told::print_wedges(file, 1, 4);
+    tallies_told::print_wedges(file, 1, 3);
+    tallies_told::print_wedges(file, 0, 2);
+    tallies_told::print_wedges(file, 3, 2);
+}
+
+// The two volumes behind the first n bytes; the first of them ends at 5,895.
+fn others(buf: &[u8; 65536], n: usize, end: usize) {
+    section(b"six layers", behind(first(buf, 5895), n));
+    valley(behind(first(buf, end), 5895));
 }
 
 fn main() {
@@ -134,6 +154,7 @@ fn main() {
     each_gate(file);
     in_words(file);
     short_rooms(file);
+    wedges(file);
     over_zero(zero(file) as u16);
     prefixes(file);
     damaged(b"bad state in radial 7", &mut buf, n, 2097, 9);
@@ -141,5 +162,5 @@ fn main() {
     damaged(b"bad magic", &mut buf, n, 0, 0);
     damaged(b"bad process mode in cut 3", &mut buf, n, 928, 0);
     damaged(b"another scale in radial 1", &mut buf, n, 1252, 7);
-    second(&buf, n, end);
+    others(&buf, n, end);
 }

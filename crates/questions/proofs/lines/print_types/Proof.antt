@@ -1,4 +1,4 @@
--- Each turn goes on by a type, up to 12. Assumes nothing.
+-- Each turn goes on by a type, up to 16. Assumes nothing.
 use Prim.Native.Nat.{_-_}
 use borrow.Author.Needs.{needs}
 use Rattle.questions.proofs.lines.print_types.Statement.{statement}
