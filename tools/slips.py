@@ -120,6 +120,47 @@ SLIPS = {
         ('crates/index/proofs/Starts.antt', 'use Rattle.le.specs.Le.{part}', 'use Rattle.le.specs.Le.{bytes, part}'),
         ('crates/index/proofs/Starts.antt', 'unfolding newStart\nlength-new cuts = ap suc (length-bytes 2 cuts)', 'unfolding newStart bytes\nlength-new cuts = refl'),
     ],
+    # the end of a wedge counted in (document 02, #114)
+    'end_counted_in': [
+        ('crates/wedge/specs/Wedge.antt', 'not (reaches end x)', 'not (reaches (end + 1) x)'),
+        ('crates/wedge/specs/Wedge.antt', 'use Prim.Native.Nat.{ℕ, _*_}', 'use Prim.Native.Nat.{ℕ, _+_, _*_}'),
+        ('crates/wedge/src/lib.rt', 'h < self.end }', 'h <= self.end }'),
+        ('crates/wedge/proofs/Wedges.antt', 'ltb h end)', 'leb h end)'),
+        ('crates/wedge/proofs/Wedges.antt', 'w start, w end, not-leb end h)', 'w start, w (end + 1), not-leb (end + 1) h)'),
+        ('crates/wedge/proofs/Wedges.antt', '{ℕ, _*_', '{ℕ, _+_, _*_'),
+    ],
+    # equal ends of a wedge taken as empty (document 02, #114)
+    'equal_ends_empty': [
+        ('crates/wedge/specs/Wedge.antt', 'cond (ltb start end)', 'cond (leb start end)'),
+        ('crates/wedge/src/lib.rt', 'if self.start < self.end', 'if self.start <= self.end'),
+        ('crates/wedge/proofs/Wedges.antt', 'start < end → between', 'start ≤ end → between'),
+        ('crates/wedge/proofs/Wedges.antt', 'end ≤ start → between', 'end < start → between'),
+        ('crates/wedge/proofs/Wedges.antt', 'rw (lt-ltb start end l,', 'rw (le-leb start end l,'),
+        ('crates/wedge/proofs/Wedges.antt', 'rw (le-ltb start end l,', 'rw (lt-leb start end l,'),
+    ],
+    # an end of 36,000 let in (number 61; document 02, #114)
+    'wedge_to_36000': [
+        ('crates/wedge/specs/Wedge.antt', 'ltb (w .start) circle && ltb (w .end) circle', 'leb (w .start) circle && leb (w .end) circle'),
+        ('crates/wedge/src/lib.rt', 'self.start < 36000', 'self.start <= 36000'),
+        ('crates/wedge/src/lib.rt', 'self.end < 36000', 'self.end <= 36000'),
+        ('crates/wedge/proofs/Wedge/ok/Proof.antt', '{lt-ltb, le-ltb}', '{le-leb, lt-leb}'),
+        ('crates/wedge/proofs/Wedge/ok/Proof.antt', 'rw (lt-ltb _', 'rw (le-leb _'),
+        ('crates/wedge/proofs/Wedge/ok/Proof.antt', 'rw (le-ltb _', 'rw (lt-leb _'),
+    ],
+    # a wedge of elevations (document 02, #114)
+    'elevation_for_azimuth': [
+        ('crates/ask/specs/Tallies.antt', 'radialAt (bytesOf f s) 0 .azimuth', 'radialAt (bytesOf f s) 0 .elevation'),
+        ('crates/ask/src/tallies.rt', 'Radial::AZIMUTH', 'Radial::ELEVATION'),
+        ('crates/ask/proofs/Tallying.antt', 'radialAt b 0 .azimuth ≡ le 4 b 20', 'radialAt b 0 .elevation ≡ le 4 b 24'),
+        ('crates/ask/proofs/Tallying.antt', 'le-part 4 64 b 0 20', 'le-part 4 64 b 0 24'),
+    ],
+    # radials counted as blank whose spot blank is 0 (document 02, #114)
+    'blanks_of_zero': [
+        ('crates/ask/specs/Tallies.antt', '(radialAt b 0 .«spot_blank») 1)', '(radialAt b 0 .«spot_blank») 0)'),
+        ('crates/ask/src/tallies.rt', '«spot_blank») 1)', '«spot_blank») 0)'),
+        ('crates/ask/src/tallies.rt', 'Radial::SPOT_BLANK) == 1', 'Radial::SPOT_BLANK) == 0'),
+        ('crates/ask/proofs/Tallying.antt', '«spot_blank») 1)', '«spot_blank») 0)'),
+    ],
     # the types seen not cleared at a new radial (number 20)
     'seen_not_cleared': [
         ('crates/walk/specs/After.antt', 'left = r .«length_of_data»; seen = 0;', 'left = r .«length_of_data»; seen = w .rest .seen;'),
