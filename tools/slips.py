@@ -19,6 +19,10 @@ OWN, FIRST = 'cutPlace (w .count .cut)', 'cutPlace 1'
 BY_SCAN, BY_CUT = 'cond (rhi scan) 6 (cond (ltb cut cuts) 2 4)', 'cond (ltb cut cuts) 2 (cond (rhi scan) 6 4)'
 CLOSING = 'crates/rules/proofs/states/closing/Proof.antt'
 EARLIER, LAST = (f'{law} (a .cut) (a .cuts) (omega arith)' for law in ('lt-ltb', 'le-ltb'))
+NOT_SUC = '''not-suc : (a b : ℕ) → not (leb (a + 1) b) ≡ leb b a
+not-suc a b = dite (decLt b (a + 1)) (λ h. rw (lt-leb (a + 1) b h, le-leb b a (omega arith))) (λ h. rw (le-leb (a + 1) b (omega arith), lt-leb b a (omega arith)))
+
+'''
 
 SLIPS = {
     # every radial judged by the masks of cut 1 (numbers 20 and 23)
@@ -126,7 +130,8 @@ SLIPS = {
         ('crates/wedge/specs/Wedge.antt', 'use Prim.Native.Nat.{ℕ, _*_}', 'use Prim.Native.Nat.{ℕ, _+_, _*_}'),
         ('crates/wedge/src/lib.rt', 'h < self.end }', 'h <= self.end }'),
         ('crates/wedge/proofs/Wedges.antt', 'ltb h end)', 'leb h end)'),
-        ('crates/wedge/proofs/Wedges.antt', 'w start, w end, not-leb end h)', 'w start, w (end + 1), not-leb (end + 1) h)'),
+        ('crates/wedge/proofs/Wedges.antt', 'w start, w end, not-leb end h)', 'w start, w (end + 1), not-suc end h)'),
+        ('crates/wedge/proofs/Wedges.antt', '-- by the whole part\n', NOT_SUC),
         ('crates/wedge/proofs/Wedges.antt', '{ℕ, _*_', '{ℕ, _+_, _*_'),
     ],
     # equal ends of a wedge taken as empty (document 02, #114)
