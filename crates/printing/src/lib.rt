@@ -1,6 +1,7 @@
-// What the programs share: words, numbers and listings on standard output, and the start and the rest of a slice.
+// What the programs share: words, numbers, counts and listings on standard output, and the start and the rest of a slice.
 ghost use mathlib.Core.Path.{_≡_};
 ghost use lib.ListN.{take, drop};
+use gates::Counts;
 use libc::STDOUT_FILENO;
 use listing::Cursor;
 use listing::Line;
@@ -46,25 +47,51 @@ pub fn number(n: u64) {
     bare(n);
 }
 
-pub fn refused(n: u32) {
-    word(b" refused");
+pub fn bare_refused(n: u32) {
+    word(b"refused");
     number(n as u64);
 }
 
-pub fn print_verdict(v: Verdict) {
+pub fn refused(n: u32) {
+    word(b" ");
+    bare_refused(n);
+}
+
+// With nothing before it, as `bare`.
+pub fn bare_verdict(v: Verdict) {
     match v {
-        Verdict::Complete => {
-            word(b" complete");
-        }
+        Verdict::Complete => word(b"complete"),
         Verdict::Open(missing) => {
-            word(b" open");
+            word(b"open");
             number(missing as u64);
         }
         Verdict::Refused(n, place) => {
-            refused(n);
+            bare_refused(n);
             number(place as u64);
         }
     }
+}
+
+pub fn print_verdict(v: Verdict) {
+    word(b" ");
+    bare_verdict(v);
+}
+
+// A number behind a sign.
+pub fn part(sign: &[u8], n: u64) {
+    word(sign);
+    bare(n);
+}
+
+// The seven counts of a tally, each behind a sign.
+pub fn print_counts(sign: &[u8], c: Counts) {
+    part(sign, c.below);
+    part(sign, c.folded);
+    part(sign, c.not_scanned);
+    part(sign, c.unknown);
+    part(sign, c.reserved);
+    part(sign, c.value);
+    part(sign, c.class);
 }
 
 // The verdict, the bytes read and the whole radials.

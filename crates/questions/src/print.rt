@@ -11,8 +11,7 @@ pub(crate) fn colon() {
 }
 
 pub(crate) fn part(n: u64) {
-    word(b"/");
-    bare(n);
+    printing::part(b"/", n);
 }
 
 pub(crate) fn refused(n: u32) {

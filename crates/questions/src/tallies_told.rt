@@ -10,18 +10,9 @@ use gates::Counts;
 use printing::bare;
 use printing::newline;
 use printing::number;
+use printing::print_counts;
 use printing::word;
 use wedge::Wedge;
-
-fn print_counts(c: Counts) {
-    part(c.below);
-    part(c.folded);
-    part(c.not_scanned);
-    part(c.unknown);
-    part(c.reserved);
-    part(c.value);
-    part(c.class);
-}
 
 fn print_counted(tally: Tally) {
     let sums = tally.sums;
@@ -29,7 +20,7 @@ fn print_counted(tally: Tally) {
     part(tally.wedge.end as u64);
     part(sums.radials);
     part(sums.blanks);
-    print_counts(sums.counts);
+    print_counts(b"/", sums.counts);
 }
 
 // No two fields hold the same, so that none can stand for another unseen.

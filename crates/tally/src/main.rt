@@ -5,63 +5,30 @@
 ghost use mathlib.Core.Path.{_≡_};
 ghost use lib.ListN.{length};
 use ask::tallies;
-use ask::tallies::Sums;
 use ask::tallies::Tally;
 use ask::tallies::TallyAnswer;
-use gates::Counts;
 use libc::STDIN_FILENO;
-use printing::bare;
+use printing::bare_refused;
+use printing::bare_verdict;
 use printing::behind;
 use printing::first;
 use printing::newline;
-use printing::number;
+use printing::part;
+use printing::print_counts;
 use printing::word;
 use reading::Verdict;
 use wedge::Wedge;
 
-fn part(n: u64) {
-    word(b"\t");
-    bare(n);
-}
-
-fn print_verdict(v: Verdict) {
-    match v {
-        Verdict::Complete => word(b"complete"),
-        Verdict::Open(missing) => {
-            word(b"open");
-            number(missing as u64);
-        }
-        Verdict::Refused(n, place) => {
-            word(b"refused");
-            number(n as u64);
-            number(place as u64);
-        }
-    }
-}
-
-fn print_counts(c: Counts) {
-    part(c.below);
-    part(c.folded);
-    part(c.not_scanned);
-    part(c.unknown);
-    part(c.reserved);
-    part(c.value);
-    part(c.class);
-}
-
-fn print_sums(s: Sums) {
-    part(s.radials);
-    part(s.blanks);
-    print_counts(s.counts);
-}
-
 fn print_tally(v: Verdict, t: Tally) {
     word(b"verdict\tstart\tend\tradials\tspot blanks\t");
     word(b"below threshold\trange folded\tnot scanned\tunknown\treserved\tvalues\tclasses\n");
-    print_verdict(v);
-    part(t.wedge.start as u64);
-    part(t.wedge.end as u64);
-    print_sums(t.sums);
+    let sums = t.sums;
+    bare_verdict(v);
+    part(b"\t", t.wedge.start as u64);
+    part(b"\t", t.wedge.end as u64);
+    part(b"\t", sums.radials);
+    part(b"\t", sums.blanks);
+    print_counts(b"\t", sums.counts);
     newline();
 }
 
@@ -74,8 +41,7 @@ fn say_refusal(n: u32) {
 }
 
 fn print_refused(n: u32) {
-    word(b"refused");
-    number(n as u64);
+    bare_refused(n);
     word(b" 0\n");
     say_refusal(n);
 }
