@@ -52,6 +52,7 @@ use Rattle.ask.proofs.tallies.Tally as T
 use Rattle.ask.proofs.tallies.Tally.Laws as T′
 use Rattle.lent.specs.Lending.{lentOf}
 use Rattle.lent.specs.declared.Lent.{Lent}
+use Rattle.lent.proofs.Values.{val, vals, wedgeVal, wedgeVals}
 use Rattle.lent.proofs.Lent as D
 use Rattle.lent.proofs.Lent.Laws as D′
 use Rattle.lent.proofs.tally_into as g
@@ -65,15 +66,6 @@ use Rattle.lent.proofs.tally_by.Code as code
 
 abbrev stayed : Stays (f.ended .signature .params) (f.ended .kept)
 stayed = (stay-dropped (plain (λ _. T.the-row)) yes, (stay-dropped (shrSliceOf (0 ∷ []) tt (plain (λ _. u8))) yes, (stay-dropped (plain (λ _. u32)) yes, (stay-dropped (plain (λ _. u32)) yes, (stay-dropped (plain (λ _. P.the-row)) yes, tt)))))
-
-abbrev val : Tally → Val
-val = LL.val T.the-type T′.the-laws
-
-abbrev vals : Tally → List Val
-vals = LL.vals T.the-type T′.the-laws
-
-abbrev wedgeVals : Wedge → List Val
-wedgeVals = LL.vals P.the-type P′.the-laws
 
 module _ {M : Type 1} (𝓤 : URA M) (H : Heap 𝓤) (A : Atoms 𝓤) (at-mem : Memory → SProp 𝓤) (run : Routine → Fun 𝓤) where
   -- the contract that the proof cites
@@ -129,10 +121,10 @@ module _ {M : Type 1} (𝓤 : URA M) (H : Heap 𝓤) (A : Atoms 𝓤) (W : Given
 
   module _ (C : Calls 𝓤 H) (Λ : Loops 𝓤 H) (fm : FmC 𝓤 H (W .laws) C) (known : Triple 𝓤 (C #lent·tally-into) (Callee 𝓤 H A at-mem run)) where
     walk : Is T.the-row h (vals h) → Is (ShrSlice (named 0) κ u8) s (u ∷ []) → n < 2 ^ 32 → d < 2 ^ 32 → Is P.the-row v₀ (wedgeVals v₀)
-        → ent 𝓤 (onEntry 𝓤 H A f.signature (κ, tt) (q, tt) x at) (WpFn 𝓤 H C Λ code.function (val h ∷ u ∷ vint w32 n ∷ vint w32 d ∷ LL.val P.the-type P′.the-laws v₀ ∷ []) Post)
+        → ent 𝓤 (onEntry 𝓤 H A f.signature (κ, tt) (q, tt) x at) (WpFn 𝓤 H C Λ code.function (val h ∷ u ∷ vint w32 n ∷ vint w32 d ∷ wedgeVal v₀ ∷ []) Post)
     unfolding partOf
     walk was p gn gd gw =
-        qed W ((‵ (flft κ q) ⊛ ‵ ftrue) ∷ ‵ (owns (T.the-row ∷ ShrSlice (named 0) κ u8 ∷ u32 ∷ u32 ∷ P.the-row ∷ []) x at) ∷ []) ∵ enter ! C Λ code.function (val h ∷ u ∷ vint w32 n ∷ vint w32 d ∷ LL.val P.the-type P′.the-laws v₀ ∷ []) _ $
+        qed W ((‵ (flft κ q) ⊛ ‵ ftrue) ∷ ‵ (owns (T.the-row ∷ ShrSlice (named 0) κ u8 ∷ u32 ∷ u32 ∷ P.the-row ∷ []) x at) ∷ []) ∵ enter ! C Λ code.function (val h ∷ u ∷ vint w32 n ∷ vint w32 d ∷ wedgeVal v₀ ∷ []) _ $
         alloc1 ! (λ l₀. alloc1 ! (λ l₁. alloc1 ! (λ l₂. alloc1 ! (λ l₃. alloc1 ! (λ l₄. alloc1 ! (λ l₅. alloc1 ! (λ l₆. alloc1 ! (λ l₇. alloc1 ! (λ l₈. alloc1 ! (λ l₉. alloc0 ! $ params1 ! $
         pass1 ! (init ! 16 refl (LL.lawful T.the-type T′.the-laws 𝓤 H A W .typed h _ was .0)) $ pass1 ! (init ! 14 refl (shr-slice-lawful 𝓤 H A W (named 0) κ u8 .typed s (u ∷ []) p .0)) $ pass1 ! (init ! 12 refl (tt, record { fits = gn })) $ pass1 ! (init ! 10 refl (tt, record { fits = gd })) $ pass1 ! (init ! 8 refl (LL.lawful P.the-type P′.the-laws 𝓤 H A W .typed v₀ _ gw .0)) $ pass0 ! $
         assigns ! (of-opd ! (load ! (from ! (stop !)) (look ! 16 refl))) (from ! (stop !)) (init ! 6 refl (LL.lawful T.the-type T′.the-laws 𝓤 H A W .typed h _ was .0)) $

@@ -51,6 +51,7 @@ use Rattle.ask.proofs.tallies.Tally as T
 use Rattle.ask.proofs.tallies.Tally.Laws as T′
 use Rattle.lent.specs.Lending.{lentOf}
 use Rattle.lent.specs.declared.Lent.{Lent}
+use Rattle.lent.proofs.Values.{vals, wedgeVal, wedgeVals}
 use Rattle.lent.proofs.Lent as D
 use Rattle.lent.proofs.Lent.Laws as D′
 use Rattle.lent.proofs.tally_told as g
@@ -64,12 +65,6 @@ use Rattle.lent.proofs.tally_into.Code as code
 
 abbrev stayed : Stays (f.ended .signature .params) (f.ended .kept)
 stayed = (stay-ref (0 ∷ []) tt (plain (λ _. T.the-row)), (stay-dropped (shrSliceOf (1 ∷ []) tt (plain (λ _. u8))) yes, (stay-dropped (plain (λ _. u32)) yes, (stay-dropped (plain (λ _. u32)) yes, (stay-dropped (plain (λ _. P.the-row)) yes, tt)))))
-
-abbrev vals : Tally → List Val
-vals = LL.vals T.the-type T′.the-laws
-
-abbrev wedgeVals : Wedge → List Val
-wedgeVals = LL.vals P.the-type P′.the-laws
 
 module _ {M : Type 1} (𝓤 : URA M) (H : Heap 𝓤) (A : Atoms 𝓤) (at-mem : Memory → SProp 𝓤) (run : Routine → Fun 𝓤) where
   -- the contract that the proof cites
@@ -118,9 +113,9 @@ module _ {M : Type 1} (𝓤 : URA M) (H : Heap 𝓤) (A : Atoms 𝓤) (W : Given
 
   module _ (C : Calls 𝓤 H) (Λ : Loops 𝓤 H) (fm : FmC 𝓤 H (W .laws) C) (known : Triple 𝓤 (C #lent·tally-told) (Callee 𝓤 H A at-mem run)) where
     walk : Is (ShrSlice (named 1) κ′ u8) s (u ∷ []) → n < 2 ^ 32 → d < 2 ^ 32 → Is P.the-row v₀ (wedgeVals v₀)
-        → ent 𝓤 (onEntry 𝓤 H A f.signature (κ, (κ′, tt)) (q, (q′, tt)) x at) (WpFn 𝓤 H C Λ code.function (vptr b o ∷ u ∷ vint w32 n ∷ vint w32 d ∷ LL.val P.the-type P′.the-laws v₀ ∷ []) Post)
+        → ent 𝓤 (onEntry 𝓤 H A f.signature (κ, (κ′, tt)) (q, (q′, tt)) x at) (WpFn 𝓤 H C Λ code.function (vptr b o ∷ u ∷ vint w32 n ∷ vint w32 d ∷ wedgeVal v₀ ∷ []) Post)
     walk p gn gd gw =
-        qed W ((‵ (flft κ q) ⊛ ‵ (flft κ′ q′) ⊛ ‵ ftrue) ∷ ‵ (owns (MutRef (named 0) κ T.the-row ∷ ShrSlice (named 1) κ′ u8 ∷ u32 ∷ u32 ∷ P.the-row ∷ []) x at) ∷ []) ∵ enter ! C Λ code.function (vptr b o ∷ u ∷ vint w32 n ∷ vint w32 d ∷ LL.val P.the-type P′.the-laws v₀ ∷ []) _ $
+        qed W ((‵ (flft κ q) ⊛ ‵ (flft κ′ q′) ⊛ ‵ ftrue) ∷ ‵ (owns (MutRef (named 0) κ T.the-row ∷ ShrSlice (named 1) κ′ u8 ∷ u32 ∷ u32 ∷ P.the-row ∷ []) x at) ∷ []) ∵ enter ! C Λ code.function (vptr b o ∷ u ∷ vint w32 n ∷ vint w32 d ∷ wedgeVal v₀ ∷ []) _ $
         alloc1 ! (λ l₀. alloc1 ! (λ l₁. alloc1 ! (λ l₂. alloc1 ! (λ l₃. alloc1 ! (λ l₄. alloc1 ! (λ l₅. alloc1 ! (λ l₆. alloc1 ! (λ l₇. alloc0 ! $ params1 ! $
         pass1 ! (init ! 12 refl (tt, tt)) $ pass1 ! (init ! 10 refl (shr-slice-lawful 𝓤 H A W (named 1) κ′ u8 .typed s (u ∷ []) p .0)) $ pass1 ! (init ! 8 refl (tt, record { fits = gn })) $ pass1 ! (init ! 6 refl (tt, record { fits = gd })) $ pass1 ! (init ! 4 refl (LL.lawful P.the-type P′.the-laws 𝓤 H A W .typed v₀ _ gw .0)) $ pass0 ! $
         move ! (17 ∷ []) $ fsplit ! $ fsplit3 ! $ drop ! $ move ! (19 ∷ []) $ split ! $ move ! (2 ∷ 3 ∷ 0 ∷ []) $
