@@ -22,7 +22,7 @@ use Rattle.ask.specs.declared.places.Where.the-variants.{At, NoRadial, N
 use Rattle.ask.specs.declared.tallies.Sums.{Sums}
 use Rattle.ask.specs.Counted.{ofCut}
 use Rattle.ask.specs.Places.{momentIn}
-use Rattle.ask.specs.Tallies.{noSums, added, carried, isCounted, tallyOne, sumsOver, tallyOf}
+use Rattle.ask.specs.Tallies.{noSums, added, carried, isAsked, tallyOne, sumsOver, tallyOf}
 use Rattle.ask.proofs.Growing.{Placed, AllPlaced, all-placed}
 use Rattle.ask.proofs.Sounding.{own-radial}
 use Rattle.ask.proofs.Tallying.{added-assoc, added-comm, none-added}
@@ -85,7 +85,7 @@ module _ (f : List ℕ) (cut t : ℕ) where
 
   none-one : (w : Wedge) (s : Stretch) → tallyOne f cut t w s .radials ≡ 0 → tallyOne f cut t w s ≡ noSums
   unfolding carried
-  none-one w s = go (isCounted f cut w s) (momentIn f t s)
+  none-one w s = go (isAsked f cut w s) (momentIn f t s)
     where
       go : (here : Bool) (v : Where) → cond here (carried (bytesOf f s) v) noSums .radials ≡ 0 → cond here (carried (bytesOf f s) v) noSums ≡ noSums
       go false v e = refl

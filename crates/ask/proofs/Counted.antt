@@ -34,7 +34,7 @@ use Rattle.ask.specs.Answers.{radialTold, radialOfFile, codingOf, gateIn
 use Rattle.ask.specs.Counted.{isOf, answeredWith, gatesAt, gatesOne, sumOver, CountedOnce, Counted}
 use Rattle.ask.specs.Growth.{gateAsked}
 use Rattle.ask.specs.Places.{inStretch, momentIn, inFound, whereIs}
-use Rattle.ask.specs.Tallies.{noSums, added, carried, isCounted, tallyOne, sumsOver}
+use Rattle.ask.specs.Tallies.{noSums, added, carried, isAsked, tallyOne, sumsOver}
 use Rattle.ask.proofs.AddUp.{full-circle}
 use Rattle.ask.proofs.Asked.{find-type}
 use Rattle.ask.proofs.Growing.{Placed, AllPlaced, all-placed, nth-placed}
@@ -125,7 +125,7 @@ module _ (f : List ℕ) (cut t : ℕ) (w : Wedge) where
   unfolding inFound carried
   without n s e o =
       let no : momentIn f t s ≡ NoMoment = rw e at o in
-      rw no (go (isCounted f cut w s))
+      rw no (go (isAsked f cut w s))
     where
       go : (b : Bool) → cond b noSums noSums ≡ noSums
       go true = refl
@@ -182,7 +182,7 @@ module _ (f : List ℕ) (t : ℕ) (w : Wedge) where
   over-gates cut [] all h = refl
   over-gates cut (s ∷ ss) all h =
       total-added (tallyOne f cut t w s) (sumsOver (tallyOne f cut t w) ss)
-      ∙ rw (over-gates cut ss (all .1) (h .1)) (ap (λ (x : ℕ). x + sumOver (gatesOne f cut t w) ss) (go (isCounted f cut w s)))
+      ∙ rw (over-gates cut ss (all .1) (h .1)) (ap (λ (x : ℕ). x + sumOver (gatesOne f cut t w) ss) (go (isAsked f cut w s)))
     where
       go : (b : Bool) → totalOf (cond b (carried (bytesOf f s) (momentIn f t s)) noSums .counts) ≡ cond b (gatesAt (bytesOf f s) (momentIn f t s)) 0
       go true = carried-gates s (all .0) (h .0)
@@ -206,7 +206,7 @@ module _ (f : List ℕ) (t : ℕ) (w : Wedge) where
   over-astray : (m : Bool) (cut : ℕ) (ss : List Stretch) → isMeasurement t ≡ m → strays m (sumsOver (tallyOne f cut t w) ss) ≡ 0
   unfolding sumsOver
   over-astray m cut [] is = none-astray m
-  over-astray m cut (s ∷ ss) is = added-astray m (tallyOne f cut t w s) (sumsOver (tallyOne f cut t w) ss) (go (isCounted f cut w s)) (over-astray m cut ss is)
+  over-astray m cut (s ∷ ss) is = added-astray m (tallyOne f cut t w s) (sumsOver (tallyOne f cut t w) ss) (go (isAsked f cut w s)) (over-astray m cut ss is)
     where
       go : (b : Bool) → strays m (cond b (carried (bytesOf f s) (momentIn f t s)) noSums) ≡ 0
       go true = carried-astray m s is

@@ -33,7 +33,7 @@ use Rattle.ask.specs.declared.tallies.Sums.{Sums}
 use Rattle.ask.specs.declared.tallies.Tally.{Tally}
 use Rattle.ask.specs.Answers.{codingOf}
 use Rattle.ask.specs.Places.{momentIn}
-use Rattle.ask.specs.Tallies.{noSums, added, carried, isCounted, tallyOne, sumsOver, tallyOf, tallyTold}
+use Rattle.ask.specs.Tallies.{noSums, added, carried, isAsked, tallyOne, sumsOver, tallyOf, tallyTold}
 
 -- ---- sums
 
@@ -100,7 +100,7 @@ own-le : (f : List ℕ) (s : Stretch) → length (bytesOf f s) ≤ s .end - s .s
 own-le f s = simp length-take (omega arith)
 
 pub one-small : (f : List ℕ) (cut t : ℕ) (w : Wedge) (s : Stretch) → Small (tallyOne f cut t w s) (s .end - s .start)
-one-small f cut t w s = go (isCounted f cut w s)
+one-small f cut t w s = go (isAsked f cut w s)
   where
     go : (b : Bool) → Small (cond b (carried (bytesOf f s) (momentIn f t s)) noSums) (s .end - s .start)
     go true =

@@ -21,7 +21,7 @@ use Rattle.ask.specs.declared.tallies.Sums.{Sums}
 use Rattle.ask.specs.Answers.{radialOfFile}
 use Rattle.ask.specs.Growth.{gateAsked}
 use Rattle.ask.specs.Places.{momentIn, whereIs}
-use Rattle.ask.specs.Tallies.{noSums, carried, isCounted, tallyOne, sumsOver, tallyOf}
+use Rattle.ask.specs.Tallies.{noSums, carried, isAsked, tallyOne, sumsOver, tallyOf}
 
 -- whether a gate's answer is of a kind
 abbrev pub isOf : ℕ → Telling Values → Bool
@@ -41,7 +41,7 @@ gatesAt b (At s p) = gatesIn (momentAt b p .length) (momentAt b p .«bin_length�
 
 -- the gates that a whole radial adds to a tally of a cut and type in a wedge
 abbrev pub gatesOne : List ℕ → ℕ → ℕ → Wedge → Stretch → ℕ
-gatesOne f cut t w s = cond (isCounted f cut w s) (gatesAt (bytesOf f s) (momentIn f t s)) 0
+gatesOne f cut t w s = cond (isAsked f cut w s) (gatesAt (bytesOf f s) (momentIn f t s)) 0
 
 -- what a whole radial adds to a tally that asks for no wedge (document 01)
 abbrev pub ofCut : List ℕ → ℕ → ℕ → Stretch → Sums

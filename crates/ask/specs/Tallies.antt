@@ -46,13 +46,13 @@ carried b (At s p) =
       counts = countsOf (map (kindOf (codingOf (momentAt b p))) (codesOf (momentAt b p .«bin_length») (dataAt b p)));
     }
 
--- whether a whole radial is of the cut, and its azimuth in the wedge
-abbrev pub isCounted : List ℕ → ℕ → Wedge → Stretch → Bool
-isCounted f cut w s = eqb (s .cut) cut && inWedge w (radialAt (bytesOf f s) 0 .azimuth)
+-- whether a whole radial is asked for: of the cut, and its azimuth in the wedge
+abbrev pub isAsked : List ℕ → ℕ → Wedge → Stretch → Bool
+isAsked f cut w s = eqb (s .cut) cut && inWedge w (radialAt (bytesOf f s) 0 .azimuth)
 
 -- what a whole radial adds to the tally of a cut and type in a wedge
 abbrev pub tallyOne : List ℕ → ℕ → ℕ → Wedge → Stretch → Sums
-tallyOne f cut t w s = cond (isCounted f cut w s) (carried (bytesOf f s) (momentIn f t s)) noSums
+tallyOne f cut t w s = cond (isAsked f cut w s) (carried (bytesOf f s) (momentIn f t s)) noSums
 
 unfoldable pub sumsOver : (Stretch → Sums) → List Stretch → Sums
 sumsOver g [] = noSums
