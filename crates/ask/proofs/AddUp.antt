@@ -11,7 +11,6 @@ use Rattle.radial.specs.declared.Radial.{Radial}
 use Rattle.radial.specs.Radial.{radialAt, radialRules, radialCheck}
 use Rattle.radial.proofs.Header.{header}
 use Rattle.wedge.specs.declared.Wedge.{Wedge}
-use Rattle.wedge.specs.Wedge.{inWedge}
 use Rattle.wedge.proofs.Wedges.{all-round, one-of}
 use Rattle.reading.specs.declared.Stretch.{Stretch}
 use Rattle.reading.specs.Reading.{stretches, bytesOf}

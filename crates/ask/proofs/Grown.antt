@@ -1,16 +1,13 @@
 -- Growth of answers: the statement of specs/Growth, for every A and C with a byte at least. Assumes nothing.
 use Prim.Native.Nat.{ℕ, _<_}
 use native.Mathlib.Omega.{arith}
-use mathlib.Core.Bool.{Bool, true, false, cond}
 use mathlib.Core.List.{List, _++_}
 use mathlib.Core.Logic.{_⊎_, inl, inr}
 use mathlib.Core.Path.{_≡_, refl, sym, ap, transport, _∙_}
-use borrow.Author.Tests.{eqb-false, ne-eqb}
-use lib.Dec.{eqb}
 use lib.IntN.{ℤ}
 use lib.ListN.{length}
 use Rattle.gates.specs.declared.RowAnswer.{RowAnswer}
-use Rattle.gates.specs.Telling.{refused, answered}
+use Rattle.gates.specs.Telling.{refused}
 use Rattle.le.proofs.Laws.{part-in}
 use Rattle.radial.specs.Radial.{radialOf, radialAt}
 use Rattle.wedge.specs.declared.Wedge.{Wedge}
@@ -26,7 +23,6 @@ use Rattle.reading.proofs.Grown.{grows}
 use Rattle.ask.specs.declared.places.Where.{Where}
 use Rattle.ask.specs.declared.places.Where.the-variants.{At}
 use Rattle.ask.specs.declared.tallies.Sums.{Sums}
-use Rattle.ask.specs.declared.tallies.Tally.{Tally}
 use Rattle.ask.specs.Answers.{radialTold, momentTold, dataTold, gateTold, RowTold}
 use Rattle.ask.specs.Growth.{gateAsked, rowAsked, Kept, AnswersGrow}
 use Rattle.ask.specs.Places.{inStretch, momentIn, inFound, whereIs}

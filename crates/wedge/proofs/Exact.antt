@@ -6,13 +6,13 @@ use Prim.Native.Nat.{ℕ, _+_, _-_, _*_, _/_, _%_, _^_, _≤_, _<_}
 use native.Mathlib.Nat.{mul-one, mul-assoc, mul-le-mul-right, le-of-mul-le-mul-right, le-div-iff-mul-le, div-lt-iff-lt-mul, div-eq-of-lt, mul-div-mul-right, le-of-eq, mod-eq-of-lt}
 use native.Mathlib.Decide.{decLt}
 use native.Mathlib.Omega.{arith}
-use lib.Dec.{leb, ltb, eqb, lit<, lit≤}
+use lib.Dec.{leb, eqb, lit≤}
 use lib.Pow.{pow-pos, pow-add}
 use lib.Ieee.{Float, nan, inf, fin, binary32, up, down, ofBits}
 use lib.Ieee.Exact.{HasValue}
 use lib.Ieee.Fits.{down-pos}
 use borrow.Author.Tests.{lt-leb, leb-true, eq-eqb, ne-eqb, le-leb}
-use Rattle.le.proofs.Tests.{both, leb-same, fails}
+use Rattle.le.proofs.Tests.{both, leb-same}
 use Rattle.rules.specs.Ranges.{azimuthBits, onBits, within}
 use Rattle.rules.proofs.Order.{mag, mag-normal, mag-lt, ofBits-is, finite}
 use Rattle.wedge.specs.Wedge.{reaches, turned, Whole}

@@ -1,4 +1,3 @@
-use mathlib.Core.Path.{sym, _∙_}
 use borrow.Author.Needs.{needs}
 use Rattle.ask.specs.Tallies.{tallyAnswer}
 use Rattle.ask.proofs.tallies.tally_of.Statement.{statement}

@@ -1,5 +1,4 @@
 use borrow.Author.Tests.{lt-ltb, le-ltb}
-use native.Mathlib.Omega.{arith}
 use Rattle.wedge.specs.Wedge.{wedgeOk}
 use Rattle.wedge.proofs.Wedge.ok.Statement.{statement}
 use Rattle.wedge.proofs.Wedge.ok.Tie as tie
