@@ -14,7 +14,7 @@ documents' text alone; nothing in it comes from the program. A section for each 
         gates 0 to 19
     rows N: for each type, gates/last place of both rooms/checksum of all 16 places of both
     tallies C: for each type, the full circle's start/end/radials/spot blanks/seven counts
-    wedges C T: of `rich` and `valley`, the same for each wedge, named by its start and end
+    wedges C T: the same for each wedge, named by its start and end; of `rich` and `valley` for more cuts and types
 
 and after the whole volume's, each gate of some moments (kind, difference, scale, hundredths,
 the float's bits or the class), some gates in words, rows in short rooms, and codes over a scale of 0. A refusal is `no`
@@ -182,6 +182,7 @@ def section(label, data):
     yield from lines('gates', gates, r, end)
     yield from lines('rows', row, r, end)
     yield from lines('tallies', tally, r, 5)
+    yield wedges(r, 1, 1)
 
 
 def whole(data):
@@ -195,7 +196,7 @@ def whole(data):
     yield in_words(ref.read(data[:1200]), 1, 1, 0)
     for asked in (1, 2, 13, 13), (1, 2, 12, 13), (1, 2, 13, 12), (1, 2, 0, 0), (9, 2, 0, 0), (1, 4, 0, 0):
         yield lent_row(r, *asked)
-    for cut, t in (1, 1), (1, 2), (3, 14), (4, 1):
+    for cut, t in (1, 2), (3, 14), (4, 1):
         yield wedges(r, cut, t)
     for code in 65, 66, 67, 2:
         yield 'code %d less 66 over 0: %d %d %d %d %016x' % (code, *told(ref.gate_of(code, 0, 66, 2)))

@@ -38,6 +38,7 @@ fn section(label: &[u8], file: &[u8]) {
     lines::print_lines(file, Question::Gates, end);
     lines::print_lines(file, Question::Rows, end);
     lines::print_lines(file, Question::Tallies, 5);
+    tallies_told::print_wedges(file, 1, 1);
 }
 
 // Every gate of a radial of each cut, and gates of a radial and of a moment that are not there.
@@ -121,9 +122,8 @@ fn damaged(label: &[u8], buf: &mut [u8; 65536], n: usize, place: usize, value: u
     exchange(buf, place, old);
 }
 
-// Of a cut's types 1 and 2, of classes, and of a cut that is not there.
+// Of a type of two bytes, of classes, and of a cut that is not there.
 fn wedges(file: &[u8]) {
-    tallies_told::print_wedges(file, 1, 1);
     tallies_told::print_wedges(file, 1, 2);
     tallies_told::print_wedges(file, 3, 14);
     tallies_told::print_wedges(file, 4, 1);
