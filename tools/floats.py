@@ -29,7 +29,7 @@ OPERATION = re.compile(r'\((?:op[12]) \(?(\w*[fF]loat\w*)')
 # Of x86-64: SSE and AVX arithmetic, comparisons and conversions, and all of the older float unit
 INSTRUCTION = re.compile(r'v?(?:(?:add|sub|mul|div|sqrt|rsqrt|rcp|min|max|cmp\w*|u?comi|round|addsub|hadd|hsub|dp|fn?m\w+)[sp][sd]|cvt\w+)|f\w+')
 FUNCTION = re.compile(r'^[0-9a-f]+ <(.+)>:$')
-ASKS_NO_GATE = 'list', 'numbers', 'writing'
+ASKS_NO_GATE = 'list', 'numbers', 'tally', 'writing'
 # The flags of MXCSR, all of them faults but the last, inexact
 UNMASK = '''
 __attribute__((constructor)) static void unmask(void) {
