@@ -145,12 +145,9 @@ SLIPS = {
     ],
     # an end of 36,000 let in (number 61; document 02, #114)
     'wedge_to_36000': [
-        ('crates/wedge/specs/Wedge.antt', 'ltb (w .start) circle && ltb (w .end) circle', 'leb (w .start) circle && leb (w .end) circle'),
-        ('crates/wedge/src/lib.rt', 'self.start < 36000', 'self.start <= 36000'),
-        ('crates/wedge/src/lib.rt', 'self.end < 36000', 'self.end <= 36000'),
-        ('crates/wedge/proofs/Wedge/ok/Proof.antt', '{lt-ltb, le-ltb}', '{le-leb, lt-leb}'),
-        ('crates/wedge/proofs/Wedge/ok/Proof.antt', 'rw (lt-ltb _', 'rw (le-leb _'),
-        ('crates/wedge/proofs/Wedge/ok/Proof.antt', 'rw (le-ltb _', 'rw (lt-leb _'),
+        ('crates/wedge/src/lib.rt', '0..=35999 =>', '0..=36000 =>'),
+        ('crates/wedge/proofs/Wedge/ok/Proof.antt', '36000', '36001'),
+        ('crates/wedge/specs/Wedge.antt', 'ltb (w .start) circle && ltb (w .end) circle', 'ltb (w .start) 36001 && ltb (w .end) 36001'),
     ],
     # a wedge of elevations (document 02, #114)
     'elevation_for_azimuth': [

@@ -19,10 +19,13 @@ impl Wedge {
     pub fn ok(self) -> bool
         ensures { λ r. ⌜ r ≡ wedgeOk self ⌝ }
     {
-        if self.start < 36000 {
-            return self.end < 36000;
+        match self.start {
+            0..=35999 => match self.end {
+                0..=35999 => true,
+                _ => false,
+            },
+            _ => false,
         }
-        false
     }
 
     // Whether the azimuth with these bits lies in it. What is no azimuth lies in no wedge.
