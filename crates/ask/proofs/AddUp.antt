@@ -19,7 +19,7 @@ use Rattle.reading.proofs.Radials.{all-whole}
 use Rattle.ask.specs.declared.places.Where.{Where}
 use Rattle.ask.specs.declared.places.Where.the-variants.{At, NoRadial, NoMoment}
 use Rattle.ask.specs.declared.tallies.Sums.{Sums}
-use Rattle.ask.specs.Counted.{ofCut}
+use Rattle.ask.specs.Counted.{withNoWedge}
 use Rattle.ask.specs.Places.{momentIn}
 use Rattle.ask.specs.Tallies.{noSums, added, carried, isAsked, tallyOne, sumsOver, tallyOf}
 use Rattle.ask.proofs.Growing.{Placed, AllPlaced, all-placed}
@@ -65,15 +65,15 @@ pick x true p q e = ap (λ (b : Bool). added (cond b x noSums) (cond q x noSums)
 
 module _ (f : List ℕ) (cut t : ℕ) where
   pub two-wedges : (a b : ℕ) → (a ≡ b → ⊥)
-      → added (tallyOf f cut t (record { start = a; end = b }) .sums) (tallyOf f cut t (record { start = b; end = a }) .sums) ≡ sumsOver (ofCut f cut t) (stretches f)
+      → added (tallyOf f cut t (record { start = a; end = b }) .sums) (tallyOf f cut t (record { start = b; end = a }) .sums) ≡ sumsOver (withNoWedge f cut t) (stretches f)
   two-wedges a b d =
-      sums-of-two f _ _ (ofCut f cut t)
+      sums-of-two f _ _ (withNoWedge f cut t)
       (λ s w p. pick (carried (bytesOf f s) (momentIn f t s)) (eqb (s .cut) cut) _ _ (one-of a b (radialAt (bytesOf f s) 0 .azimuth) d (azimuth-of f s w p)))
       (stretches f) (all-whole f) (all-placed f)
 
-  pub full-circle : (w : Wedge) → w .start ≡ w .end → tallyOf f cut t w .sums ≡ sumsOver (ofCut f cut t) (stretches f)
+  pub full-circle : (w : Wedge) → w .start ≡ w .end → tallyOf f cut t w .sums ≡ sumsOver (withNoWedge f cut t) (stretches f)
   full-circle w e =
-      sums-alike f _ (ofCut f cut t) (λ s h p. rw (all-round w (radialAt (bytesOf f s) 0 .azimuth) e (azimuth-of f s h p)) (go s (eqb (s .cut) cut)))
+      sums-alike f _ (withNoWedge f cut t) (λ s h p. rw (all-round w (radialAt (bytesOf f s) 0 .azimuth) e (azimuth-of f s h p)) (go s (eqb (s .cut) cut)))
       (stretches f) (all-whole f) (all-placed f)
     where
       go : (s : Stretch) (c : Bool) → cond (c && true) (carried (bytesOf f s) (momentIn f t s)) noSums ≡ cond c (carried (bytesOf f s) (momentIn f t s)) noSums

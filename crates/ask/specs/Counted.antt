@@ -44,8 +44,8 @@ abbrev pub gatesOne : List ℕ → ℕ → ℕ → Wedge → Stretch → ℕ
 gatesOne f cut t w s = cond (isAsked f cut w s) (gatesAt (bytesOf f s) (momentIn f t s)) 0
 
 -- what a whole radial adds to a tally that asks for no wedge (document 01)
-abbrev pub ofCut : List ℕ → ℕ → ℕ → Stretch → Sums
-ofCut f cut t s = cond (eqb (s .cut) cut) (carried (bytesOf f s) (momentIn f t s)) noSums
+abbrev pub withNoWedge : List ℕ → ℕ → ℕ → Stretch → Sums
+withNoWedge f cut t s = cond (eqb (s .cut) cut) (carried (bytesOf f s) (momentIn f t s)) noSums
 
 unfoldable pub sumOver : (Stretch → ℕ) → List Stretch → ℕ
 sumOver g [] = 0
@@ -69,7 +69,7 @@ pub record Counted (f : List ℕ) (cut t : ℕ) (w : Wedge) : Type 0 where
   pub elsewhere : (s : Stretch) → (s .cut ≡ cut → ⊥) → tallyOne f cut t w s ≡ noSums
   pub outside : (n : ℕ) (s : Stretch) → nth (stretches f) n ≡ There s → inWedge w (radialOfFile f n .header .azimuth) ≡ false → tallyOne f cut t w s ≡ noSums
   pub without : (n : ℕ) (s : Stretch) → nth (stretches f) n ≡ There s → whereIs f n t ≡ NoMoment → tallyOne f cut t w s ≡ noSums
-  pub all-round : w .start ≡ w .end → tallyOf f cut t w .sums ≡ sumsOver (ofCut f cut t) (stretches f)
+  pub all-round : w .start ≡ w .end → tallyOf f cut t w .sums ≡ sumsOver (withNoWedge f cut t) (stretches f)
   pub radials : tallyOf f cut t w .sums .radials ≡ sumOver (λ s. tallyOne f cut t w s .radials) (stretches f)
   pub blanks : tallyOf f cut t w .sums .blanks ≡ sumOver (λ s. tallyOne f cut t w s .blanks) (stretches f)
   pub kinds : (k : ℕ) → k < 7

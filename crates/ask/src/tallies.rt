@@ -49,7 +49,7 @@ fn none() -> Sums
     }
 }
 
-// 1 where a radial's spot blank is 1.
+// One field of the header, which is not decoded for it.
 fn blank(b: &[u8]) -> u64
     ensures { λ r. ⌜ r ≡ cond (eqb (radialAt (now (b .entry)) 0 .«spot_blank») 1) 1 0 ⌝ }
 {

@@ -113,7 +113,7 @@ lent-told old true true t = go (eqb (t .sums .radials) 0)
 lent-told old true false t = refl
 lent-told old false accepted t = refl
 
-wedge-range : (w : Wedge) → (wedgeOk w ≡ true) ↔ ((w .start ≤ 35999) × (w .end ≤ 35999))
+pub wedge-range : (w : Wedge) → (wedgeOk w ≡ true) ↔ ((w .start ≤ 35999) × (w .end ≤ 35999))
 unfolding wedgeOk
 wedge-range w = (
   λ e.
@@ -124,7 +124,7 @@ wedge-range w = (
   λ p. rw (lt-ltb (w .start) 36000 (omega (arith, p .0)), lt-ltb (w .end) 36000 (omega (arith, p .1))),
 )
 
-tallies : (f : List ℕ) (cut t : ℕ) (w : Wedge) → Tallied f cut t w
+pub tallies : (f : List ℕ) (cut t : ℕ) (w : Wedge) → Tallied f cut t w
 unfolding tallyAnswer tallyTold
 tallies f cut t w =
     record {

@@ -28,6 +28,7 @@ use Rattle.ask.specs.declared.tallies.Tally.{Tally}
 use Rattle.ask.specs.Tallies.{added, tallyOf, cutAccepted, tallyTold, tallyAnswer}
 use Rattle.ask.proofs.AddUp.{two-wedges, full-circle, none-counted}
 use Rattle.ask.proofs.Tallying.{told-counted}
+use Rattle.demands.proofs.One.{wedge-range, tallies}
 use Rattle.demands.specs.Wedges.{wedge, Lies, Parted, computed, table, CountsAs, counted, none, AddUp, Nothing, Apart, Wedges}
 
 -- ---- azimuths
@@ -83,8 +84,7 @@ counts-as f cut t w o a = rw (o, a) (go (eqb (tallyOf f cut t w .sums .radials) 
     go false e = counted (tallyOf f cut t w)
 
 in-range : (a b : ℕ) → a ≤ 35999 → b ≤ 35999 → wedgeOk (wedge a b) ≡ true
-unfolding wedgeOk
-in-range a b l m = rw (lt-ltb a 36000 (omega arith), lt-ltb b 36000 (omega arith))
+in-range a b l m = wedge-range (wedge a b) .1 (l, m)
 
 add-up : (f : List ℕ) (cut t a b : ℕ) → Apart a b → cutAccepted (stop f) cut ≡ true → AddUp f cut t a b
 add-up f cut t a b p e =
@@ -110,16 +110,12 @@ add-up f cut t a b p e =
       class = ap (λ (s : Sums). s .counts .class) same;
     }
 
-no-cut : (f : List ℕ) (cut t : ℕ) (w : Wedge) → wedgeOk w ≡ true → cutAccepted (stop f) cut ≡ false → tallyAnswer f cut t w ≡ refused 30 0
-unfolding tallyAnswer tallyTold
-no-cut f cut t w o a = rw (o, a)
-
 nothing : (f : List ℕ) (cut t a b : ℕ) → Apart a b → cutAccepted (stop f) cut ≡ false → Nothing f cut t a b
 nothing f cut t a b p e =
     record {
-      there = no-cut f cut t (wedge a b) (in-range a b (p .first) (p .second)) e;
-      back = no-cut f cut t (wedge b a) (in-range b a (p .second) (p .first)) e;
-      full = no-cut f cut t (wedge 0 0) (in-range 0 0 (omega arith) (omega arith)) e;
+      there = tallies f cut t (wedge a b) .tally-30 (in-range a b (p .first) (p .second)) e;
+      back = tallies f cut t (wedge b a) .tally-30 (in-range b a (p .second) (p .first)) e;
+      full = tallies f cut t (wedge 0 0) .tally-30 (in-range 0 0 (omega arith) (omega arith)) e;
     }
 
 asked : (f : List ℕ) (cut t : ℕ) (w : Wedge) (x : Tally) → tallyAnswer f cut t w ≡ answered x → x .wedge ≡ w
