@@ -337,11 +337,52 @@ def cut_structure():
             yield f'{base}-cut_number_{count}', volumes.build(spec)
 
 
+# --------------------------------------------------------------------------
+# Document 02, #110: files that end behind a block which may have ended hope, and where it
+# has not, the same files completed.
+
+def ended(name, data):
+    r = ref.read(data)
+    yield name, data
+    if r.verdict[0] == 'open' and r.bytes_read == len(data):
+        whole = data + ref.completion(data)
+        if len(whole) <= ref.LISTING_TAKES:
+            yield f'{name}-completed', whole
+
+
+def hopes():
+    for base in BASES:
+        data = volumes.named(base)
+        r = ref.read(data)
+        for c, cut in enumerate(r.cuts):
+            end = 416 + 256 * (c + 1)
+            for t in 0, 1, 64:                          # 0: no type
+                raw = struct.pack('<Q', volumes.mask(t) if t else 0)
+                place = end - 256 + ref.PLACE['cut', 'moments mask']
+                yield from ended(f'{base}-cut{c + 1}-hope-type_{t}', patched(data, place, raw)[:end])
+        for n, radial in enumerate(r.radials, 1):
+            cut = r.cuts[radial.cut - 1]
+            types = bin(cut.mask).count('1')
+            ones = bin(cut.mask & ~cut.sizes).count('1')
+            for k in range(1, types + 2):               # more moments than types, too
+                edges = {k, 2 * k - min(ones, k), 32768 * k}
+                for total in sorted({e + d for e in edges for d in (-1, 0, 1, 2)}):
+                    raw = struct.pack('<2i', 32 * k + total, k)
+                    place = radial.place + ref.PLACE['radial', 'length of data']
+                    yield from ended(f'{base}-radial{n}-hope-K{k}-{total}_bytes',
+                                     patched(data, place, raw)[:radial.place + 64])
+            for m, moment in enumerate(radial.moments[:-1], 1):
+                place = moment.header_place + ref.PLACE['moment', 'length']
+                for length in range(1, moment.length + 9):
+                    yield from ended(f'{base}-radial{n}-moment{m}-hope-{length}_bytes',
+                                     patched(data, place, struct.pack('<i', length))[:moment.place])
+
+
 def family():
     """All (name, bytes); bytes that came before under another name are left out."""
     before = set()
     for part in (lengths, wrong_from_the_start, large, fields, orders, anything,
-                 radial_order, radial_structure, moment_structure, masks, cut_structure):
+                 radial_order, radial_structure, moment_structure, masks, cut_structure, hopes):
         for name, data in part():
             if data not in before:
                 before.add(data)

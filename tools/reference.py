@@ -12,11 +12,14 @@ import struct
 import sys
 from collections import namedtuple
 from fractions import Fraction
+from functools import lru_cache
 
 MAGIC = 0x4D545352
 LISTING_TAKES = 65536          # "Numbers to try": the listing's part of the input
 INT_MAX = 2**31 - 1
 MOST_CUTS, MOST_SEQUENCE = 256, 65536    # document 02, #106
+MOST_IN_CUT = 1000                       # 13
+MOST_LENGTH, MOST_DATA = 100000, 32768   # 18, of a radial; 24, of a moment
 
 # --------------------------------------------------------------------------
 # "Blocks, with byte places inside each": (name, place, struct format).
@@ -160,25 +163,101 @@ RULES = {
         (10, 'state', 0, 6, state_ok),
         (11, 'spot blank', 0, 1, None),
         (12, 'sequence', 1, MOST_SEQUENCE, lambda v, f, at: v == at.before + 1),
-        (13, 'radial number', 1, 1000, lambda v, f, at: v == at.in_cut + 1),
+        (13, 'radial number', 1, MOST_IN_CUT, lambda v, f, at: v == at.in_cut + 1),
         (14, 'elevation number', 1, MOST_CUTS, lambda v, f, at: v == at.cut),
         (15, 'azimuth', 0, 360, None),
         (16, 'elevation', -2, 90, None),
         (17, 'seconds', 0, INT_MAX, None),
         (17, 'microseconds', 0, 999999, None),
-        (18, 'length of data', 1, 100000, None),
+        (18, 'length of data', 1, MOST_LENGTH, None),
         (19, 'moment number', 1, 64, lambda v, f, at: 33 * v <= f['length of data'])],
     'moment': [
         (20, 'type', 1, 64, lambda v, f, at: v not in at.seen and bit(at.mask, v) == 1),
         (21, 'scale', 1, 32768, None),
         (22, 'offset', 0, 32768, None),
         (23, 'bin length', 1, 2, lambda v, f, at: v == 1 + bit(at.sizes, f['type'])),
-        (24, 'length', 1, 32768, length_ok)],
+        (24, 'length', 1, MOST_DATA, length_ok)],
     'data': [],
 }
 for _kind, _rules in RULES.items():                     # fields in byte order
     _places = [PLACE[_kind, _rule[1]] for _rule in _rules]
     assert _places == sorted(_places), _kind
+
+
+# --------------------------------------------------------------------------
+# Document 02, #110, number 40: a block that breaks no rule, and behind which no bytes
+# complete the volume. Of the blocks still to come only counts and lengths are bound by
+# what was read: the types and lengths of a radial's moments, and the numbers of radials.
+
+def raised(numbers, step, times):
+    """Every number raised by step, by 2 step ... and by times step. A set of numbers is one
+    whole number here: bit n is set where n is among them."""
+    out, done = numbers << step, 1
+    while done < times:
+        more = min(done, times - done)
+        out |= out << more * step
+        done += more
+    return out & (1 << MOST_LENGTH + 1) - 1
+
+
+@lru_cache(maxsize=None)
+def totals(ones, twos):
+    """What the data of so many one-byte and two-byte moments can have for bytes."""
+    if ones:
+        return raised(totals(ones - 1, twos), 1, MOST_DATA)
+    if twos:
+        return raised(totals(0, twos - 1), 2, MOST_DATA // 2)
+    return 1                                            # no moment: 0 bytes
+
+
+@lru_cache(maxsize=None)
+def some_fill(count, data, ones, twos):
+    """Whether so many moments, of different types out of so many one-byte and two-byte
+    ones, can have so many bytes of data."""
+    return data >= 0 and any(
+        totals(some, count - some) >> data & 1
+        for some in range(count + 1) if some <= ones and count - some <= twos)
+
+
+def moments_fill(count, left, mask, sizes):
+    """Whether so many moments of different types of the mask can fill what is left."""
+    return some_fill(count, left - 32 * count,
+                     bin(mask & ~sizes).count('1'), bin(mask & sizes).count('1'))
+
+
+def less(mask, t):
+    return mask & ~(1 << t - 1)
+
+
+def types_left(at):
+    mask = at.mask
+    for t in at.seen:
+        mask = less(mask, t)
+    return mask
+
+
+def radials_follow(f, at):
+    """Whether the radials that must come after this one keep 12 and 13: the one that closes
+    its cut, unless it does, and an opening and a closing one of each later cut."""
+    number, sequence = f['radial number'], f['sequence']
+    if f['state'] not in (2, 4, 6):
+        number, sequence = number + 1, sequence + 1
+    for _ in range(at.cut, at.cuts):
+        sequence += 2
+    return number <= MOST_IN_CUT and sequence <= MOST_SEQUENCE
+
+
+def hope(kind, f, at):
+    """Whether some bytes behind this block complete the volume."""
+    if kind == 'cut':                                   # each of its radials has a moment
+        return f['moments mask'] != 0
+    if kind == 'radial':
+        return radials_follow(f, at) and moments_fill(
+            f['moment number'], f['length of data'], at.mask, at.sizes)
+    if kind == 'moment':
+        mask = less(types_left(at), f['type'])
+        return moments_fill(at.after, at.left - 32 - f['length'], mask, at.sizes)
+    return True                                         # nothing in it binds what follows
 
 
 # --------------------------------------------------------------------------
@@ -211,6 +290,7 @@ class Reading:
         self.cuts = []         # accepted cuts
         self.blocks = []       # accepted blocks
         self.due = 'generic'   # kind of the block that is due (None when complete)
+        self.at = Where()      # where that block stands
 
     def take(self, kind, at, size=None):
         """Accept the block that is due and give its record, or end the reading."""
@@ -224,12 +304,14 @@ class Reading:
             v = record[name]
             if not lo <= v <= hi or further and not further(v, record, at):
                 raise End(refused(number, place + PLACE[kind, name]))
+        if not hope(kind, record, at):
+            raise End(refused(40, place))
         self.bytes_read = place + size
         self.blocks.append(Block(kind, place, place + size))
         return record
 
     def walk(self):
-        at = Where()
+        at = self.at
         self.take('generic', at)
         self.take('site', at)
         task = self.take('task', at)
@@ -381,6 +463,62 @@ def read(data):
 
 
 # --------------------------------------------------------------------------
+# Document 02, #110: what completes a file that is told open at a block's end.
+
+def lowest(kind, **given):
+    """A block in which each field that has a rule holds the lowest of its range, unless
+    it is given ('_' in a name stands for a space); every other byte is 0."""
+    out = bytearray(SIZES[kind])
+    fields = {name: lo for _, name, lo, _, _ in RULES[kind]}
+    fields |= {name.replace('_', ' '): value for name, value in given.items()}
+    for name, value in fields.items():
+        struct.pack_into(FORMAT[kind, name], out, PLACE[kind, name], value)
+    return bytes(out)
+
+
+def shortest_moment(at):
+    """(type, size, length) of a moment with which the radial can go on."""
+    mask = types_left(at)
+    of_size = {1 + bit(at.sizes, t): t for t in range(64, 0, -1) if bit(mask, t)}
+    return next((t, size, length)
+                for length in range(1, MOST_DATA + 1) for size, t in of_size.items()
+                if length % size == 0
+                and moments_fill(at.after, at.left - 32 - length, less(mask, t), at.sizes))
+
+
+def next_block(r):
+    """A block that can be the next: a new radial has one moment of one gate, and closes its cut
+    where it may."""
+    at, kind = r.at, r.due
+    if kind == 'data':
+        return bytes(r.verdict[1])
+    if kind == 'cut':
+        return lowest(kind, moments_mask=1)
+    if kind == 'radial':
+        if at.in_cut == 0:
+            state = 5 if at.rhi else 3 if at.cut == 1 else 0
+        else:
+            state = 6 if at.rhi else 2 if at.cut < at.cuts else 4
+        gate = 2 if at.mask & at.sizes == at.mask else 1    # one byte where a type has it
+        return lowest(kind, state=state, sequence=at.before + 1, radial_number=at.in_cut + 1,
+                      elevation_number=at.cut, length_of_data=32 + gate)
+    if kind == 'moment':
+        t, size, length = shortest_moment(at)
+        return lowest(kind, type=t, bin_length=size, length=length)
+    return lowest(kind)
+
+
+def completion(data):
+    """Bytes behind which the file is complete. It is open and ends at a block's end."""
+    rest, r = b'', read(data)
+    assert r.bytes_read == len(data)
+    while r.verdict != 'complete':
+        rest += next_block(r)
+        r = read(data + rest)
+    return rest
+
+
+# --------------------------------------------------------------------------
 # "The house index".
 
 def old_start(cuts):
@@ -414,7 +552,7 @@ def index_right(data, idx):
 
 def write(written, room, kind, block):
     """Store a block in room (a bytearray); the new count, or a refusal.
-    Order: 37, 25, 34, the table's checks, 35, 33."""
+    Order: 37, 25, 34, the table's checks, 40, 35, 33."""
     if not 0 <= written <= len(room):
         return refused(37)
     r = read(room[:written])
@@ -424,7 +562,7 @@ def write(written, room, kind, block):
         return refused(25, written)
     if kind != r.due:
         return refused(34, written)
-    if kind == 'data':                                  # no table check concerns data
+    if kind == 'data':                                  # no table check concerns data, nor does 40
         if len(block) != r.verdict[1]:
             return refused(35, written)
     else:

@@ -215,7 +215,7 @@ def longest_spec():
 
 
 def long_cut_spec(count=1000):
-    """A cut of 1000 radials passes; the 1001st radial of a cut is refused 13."""
+    """A cut of 1000 radials passes; in a longer one the 1000th does not close it, and is refused 40."""
     return volume([cut([radial(moment(2, [7]))] * count)])
 
 
@@ -344,6 +344,16 @@ def check():
     assert r.tally(3, 2, 35999, 0) == r.tally(0, 2) == ref.refused(30)
     assert r.tally(1, 4, 0, 1234) == r.tally(1, 2, 100, 200) == ref.refused(31)
 
+    # document 02, #110: what is told open at a block's end can be completed
+    for name in 'small', 'rich', 'rhi2', 'layers':
+        data = named(name)
+        for b in ref.read(data).blocks[:-1]:
+            begun = data[:b.end]
+            assert told(begun)[0][0] == 'open' and told(begun + ref.completion(begun))[0] == 'complete'
+    for place, number in (416 + ref.PLACE['cut', 'moments mask'], 40), (416, 9):    # no type; no process mode either
+        data = data[:place] + bytes(8) + data[place + 8:]
+        assert told(data) == (('refused', number, 416), 416, 0)
+
     # the other volumes: valid ones are complete, and written block by block the same
     for name in SPECS:
         data = named(name)
@@ -355,7 +365,8 @@ def check():
             for b in r.blocks:
                 written = ref.write(written, room, b.kind, data[b.place:b.end])
             assert room == data and written == len(data)
-    assert told(named('too_long_cut'))[0] == ('refused', 13, 672 + 1000 * 97 + 12)
+    last = 672 + 999 * 97
+    assert told(named('too_long_cut')) == (('refused', 40, last), last, 999)
     assert len(named('full')) == 65536
     print('all numbers agree')
 

@@ -19,10 +19,11 @@ A room is filled with A5 before anything is written, and its checksum covers all
 
 Of a volume of many cuts (document 02, #106) the index by its length, its first five bytes, its
 checksum and whether it is right, and the same index in the other form by its checksum and
-whether it is right. Of the longest volume, which is built in no room, the bytes and the whole
-radials up to a radial, and whether the volume is over. A line for each refusal: what is tried, the answer, then, before and after it, the room's checksum and
-the state's count of bytes.
+whether it is right. Of the longest volumes, which are built in no room, the bytes and the whole
+radials up to a radial, and whether the volume is over. A line for each refusal: what is tried,
+the answer, then, before and after it, the room's checksum and the state's count of bytes.
 """
+import struct
 import sys
 
 sys.dont_write_bytecode = True
@@ -96,21 +97,55 @@ def print_many(count):
         f'{checksum(x)} {yes(ref.index_right(data, x))}' for x in (index, changed)))
 
 
+def show_walk(label, data):
+    r = ref.read(data)
+    refusal = told(r.verdict) + ' ' if r.verdict[0] == 'refused' else ''
+    print(f'{label}: {refusal}{r.bytes_read} {len(r.radials)} {yes(r.verdict == "complete")}')
+
+
+def patched(block, kind, **fields):
+    out = bytearray(block)
+    for name, value in fields.items():
+        name = name.replace('_', ' ')
+        raw = struct.pack(ref.FORMAT[kind, name], value)
+        out[ref.PLACE[kind, name]:ref.PLACE[kind, name] + len(raw)] = raw
+    return bytes(out)
+
+
 def print_longest():
-    """Document 02, #106: a sequence of 65,536 is the last."""
+    """Document 02, #106: a sequence of 65,536 is the last, and #110: it closes the volume."""
     data = volumes.build(spec(0, 1, [256] * 256))
-    places = [r.place for r in ref.read(data).radials]
-    longer = volumes.build(spec(0, 1, [256] * 255 + [257]))
+    last = ref.read(data).radials[-1].place
+    show_walk('65535 radials', data[:last])
+    show_walk('radial 65536, closing', data)
+    show_walk('40, radial 65536', data[:last] + patched(data[last:], 'radial', state=1))
+    beyond = patched(data[last:], 'radial', sequence=65537, radial_number=257)
+    show_walk('12, radial 65537', data[:last] + beyond)
 
-    def show(label, data):
-        r = ref.read(data)
-        refusal = told(r.verdict) + ' ' if r.verdict[0] == 'refused' else ''
-        print(f'{label}: {refusal}{r.bytes_read} {len(r.radials)} {yes(r.verdict == "complete")}')
 
-    show('65535 radials', data[:places[-1]])
-    show('radial 65536, closing', data)
-    show('radial 65536', longer[:len(data)])
-    show('12, radial 65537', longer)
+def print_crowded():
+    """Document 02, #110: a cut's radial 1000 closes it, and of 65,536 two are left for each cut to come."""
+    counts = [1000] * 65 + [532, 2, 2]
+    data = volumes.build(spec(0, 1, counts))
+    radials = ref.read(data).radials
+
+    def upto(sequence):
+        return data[:radials[sequence - 1].end]
+
+    def open_still(sequence):
+        """Up to a radial that closes its cut, in the state of one that does not."""
+        place = radials[sequence - 1].place
+        return data[:place] + patched(upto(sequence)[place:], 'radial', state=1)
+
+    show_walk('999 radials of a cut', upto(999))
+    show_walk('radial 1000, closing', upto(1000))
+    show_walk('40, radial 1000', open_still(1000))
+    show_walk('65531 radials, in cut 66 of 68', upto(65531))
+    for cut, closing in (66, 65532), (67, 65534), (68, 65536):
+        if cut > 66:
+            show_walk(f'radial {closing - 1}, opening cut {cut}', upto(closing - 1))
+        show_walk(f'40, radial {closing}', open_still(closing))
+        show_walk(f'radial {closing}, closing cut {cut}', upto(closing))
 
 
 def print_put(label, written, room, kind, block):
@@ -129,6 +164,26 @@ def print_layers():
     for label, n, state in ('10, a layer closed by 2', 1, 2), ('10, a layer opened by 0', 2, 0):
         at = places[n]
         print_put(label, at, room_of(1500, data[:at]), 'radial', bytes([state]) + data[at + 1:at + 64])
+
+
+def print_hopeless():
+    """Document 02, #110: a cut of no type; more moments than types; bytes that the types cannot fill."""
+    data = volumes.build(spec(0, 3, [2]))
+    cut = patched(data[416:672], 'cut', moments_mask=0)
+    header, moment = data[672:736], data[736:768]
+
+    def put(label, length, kind, block):
+        """In a room that ends before the block."""
+        print_put(label, length, room_of(length, data[:length]), kind, block)
+
+    print_put('34 ahead of 40, a cut of no type before all else', 0, room_of(416), 'cut', cut)
+    put('40 ahead of 33, a cut of no type in a room of 416 bytes', 416, 'cut', cut)
+    put('9 ahead of 40, a cut of no type and process mode 0', 416, 'cut', patched(cut, 'cut', process_mode=0))
+    header = patched(header, 'radial', moment_number=3, length_of_data=132)
+    put('40 ahead of 33, three moments of two types', 672, 'radial', header)
+    put('11 ahead of 40, three moments of two types and spot blank 2', 672, 'radial',
+        patched(header, 'radial', spot_blank=2))
+    put('40 ahead of 33, seven bytes for a two-byte type', 736, 'moment', patched(moment, 'moment', length=5))
 
 
 def print_refusals():
@@ -150,6 +205,7 @@ def print_refusals():
     put('8, 257 cuts', 1000, 160, 'task', task)
     put('8 ahead of 33, 257 cuts in a room of 160 bytes', 160, 160, 'task', task)
     print_layers()
+    print_hopeless()
     put('35, three bytes of four', 1000, 768, 'data', b'\5\6\7')
     put('33, a room of 735 bytes', 735, 672, 'radial', opening)
     put('37, more bytes than the room has', 1000, 672, 'radial', opening, 1001)
@@ -160,6 +216,8 @@ def print_refusals():
     print(f'37, another number of cuts: {told(ref.refused(37))}, room {same} {same}, '
           'written 672 672')
     print_put('37, another first byte', 672, room_of(1000, b'\0' + data[1:672]), 'radial', opening)
+    cut = patched(data[416:672], 'cut', moments_mask=0)
+    print_put('37, a cut of no type', 672, room_of(1000, data[:416] + cut), 'radial', opening)
 
     same = checksum(room_of(22))
     for label, answer in (
@@ -179,6 +237,7 @@ def main():
     for count in (50, 51, 120, 255, 256):               # document 02, #106
         print_many(count)
     print_longest()
+    print_crowded()
     print_refusals()
 
 

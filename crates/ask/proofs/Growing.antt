@@ -101,7 +101,7 @@ onwards due.Nothing p w m u e = absurd (let z : _≡_ {A = ℕ} 0 1 = cc in omeg
 
 later : (k : ℕ) (f : List ℕ) (w : Walk) → Unplanned (w .due) w → Onwards w (last k f w)
 later k f w u =
-    last-holds f (Onwards w)
+    last-holds true f (Onwards w)
     (λ v m e o. let n = onwards (v .due) _ v m (o .plan) (taken f v m e .block) in let a = o .cuts in let b = n .cuts in record { cuts = omega arith; plan = n .plan }) k w
     (record { cuts = omega arith; plan = u })
 

@@ -60,7 +60,7 @@ use Rattle.demands.specs.One.{Ending, is-complete, is-open, is-refused, 
 
 ends : (f : List ℕ) → Ending f
 unfolding stays endingTold
-ends f = go (ending f) refl (last-off (fuel f) f atStart (enough f atStart))
+ends f = go (ending f) refl (last-off true (fuel f) f atStart (enough f atStart))
   where
     go : (s : Step) → ending f ≡ s → stays (ending f) → Ending f
     go (step.Took m) e h = absurd (rw e at h)

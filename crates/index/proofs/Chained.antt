@@ -23,9 +23,8 @@ use Rattle.reading.specs.declared.Stretch.{Stretch}
 use Rattle.reading.specs.declared.step.Step.the-variants.{Took}
 use Rattle.reading.specs.Step.{takeGeneric, takeSite, takeTask, takeCut, takeRadial, takeMoment, takeData, blockAt}
 use Rattle.reading.specs.Reading.{fuel, stretchIf, stretchOf, stretches}
-use Rattle.reading.proofs.Counts.{settle-fine}
 use Rattle.reading.proofs.Radials.{Said, said, each-radial}
-use Rattle.reading.proofs.Run.{settle-took, dataThen, took-more, took-last, due-either, taken, run-holds}
+use Rattle.reading.proofs.Run.{settle-took, settle-fine, dataThen, took-more, took-last, due-either, taken, run-holds}
 use Rattle.index.specs.Making.{cutsIn, firstRadial}
 use Rattle.index.proofs.Walked.{cut-number}
 
@@ -99,7 +98,7 @@ module _ (f : List ℕ) (w m : Walk) (t : List Stretch) (later : Linked f (m .du
 in-row : (f : List ℕ) → Row (firstRadial (cutsIn f)) (stretches f)
 unfolding Linked
 in-row f =
-    run-holds (λ v. []) stretchOf f (λ w t. Linked f (w .due) w t) (λ w. none-linked f (w .due) w) (λ w m t e r. linked-on f w m t r (w .due) (taken f w m e .block)) (fuel f) atStart
+    run-holds true (λ v. []) stretchOf f (λ w t. Linked f (w .due) w t) (λ w. none-linked f (w .due) w) (λ w m t e r. linked-on f w m t r (w .due) (taken f w m e .block)) (fuel f) atStart
     refl
 
 -- ---- and its header says where that is

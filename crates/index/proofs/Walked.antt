@@ -87,7 +87,7 @@ rising-step false w m t c g h r = rising-from c (floor (m .due) m) t h r
 pub rising : (f : List ℕ) → Rising 1 (stretches f)
 unfolding floor Rising
 rising f =
-    run-holds (λ v. []) stretchOf f (λ w t. Rising (floor (w .due) w) t) (λ w. tt)
+    run-holds true (λ v. []) stretchOf f (λ w t. Rising (floor (w .due) w) t) (λ w. tt)
     (λ w m t e r. rising-step (endsRadial (w .due) (w .rest .todo)) w m t (floor (w .due) w)
     (λ q. ap (λ (d : Due). floor d w) (ends-data (w .due) (w .rest .todo) q)) (floor-on (w .due) _ w m (taken f w m e .block)) r)
     (fuel f) atStart
@@ -139,5 +139,5 @@ planned-end f due.Nothing w e h = h
 pub cuts-read : (f : List ℕ) → told f ≡ 0 ∷ [] → stop f .plan .cuts ≡ cutsIn f
 unfolding Planned
 cuts-read f e =
-    planned-end f (stop f .due) (stop f) (ended f (stop f) (step-done (ending f) e) .0)
-    (last-holds f (λ w. Planned f (w .due) w) (λ w m q h. planned-on f (w .due) w m h (taken f w m q .block)) (fuel f) atStart refl)
+    planned-end f (stop f .due) (stop f) (ended true f (stop f) (step-done (ending f) e) .0)
+    (last-holds true f (λ w. Planned f (w .due) w) (λ w m q h. planned-on f (w .due) w m h (taken f w m q .block)) (fuel f) atStart refl)

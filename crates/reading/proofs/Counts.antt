@@ -7,8 +7,6 @@ use mathlib.Core.List.{List, []}
 use borrow.Author.Tests.{lt-ltb, ne-eqb}
 use lib.Dec.{eqb, ltb}
 use lib.ListN.{length}
-use Rattle.rules.specs.declared.check.Check.{Check}
-use Rattle.rules.specs.declared.check.Check.the-variants.{Fine, Broken}
 use Rattle.radial.specs.Radial.{radialCheck, radialRules, radialAt}
 use Rattle.radial.proofs.Header.{header}
 use Rattle.rules.proofs.Judged.{all-hold}
@@ -20,11 +18,11 @@ use Rattle.reading.specs.declared.step.Step.{Step}
 use Rattle.reading.specs.declared.step.Step.the-variants.{Took}
 use Rattle.walk.specs.Due.{dueIf, endsRadial, radialDue, atStart}
 use Rattle.walk.specs.After.{afterData, afterDataIf, closesCut}
-use Rattle.reading.specs.Step.{settle, takeGeneric, takeSite, takeTask, takeCut, takeRadial, takeMoment, takeData, cutIn, blockAt, stepOf}
+use Rattle.reading.specs.Step.{takeGeneric, takeSite, takeTask, takeCut, takeRadial, takeMoment, takeData, cutIn, blockAt, stepOf}
 use Rattle.reading.specs.Reading.{last, fuel, stop, stretchIf, stretchOf, trace, stretches, verdictTold, endingTold, Tells}
 use Rattle.reading.specs.declared.Verdict.{Verdict}
 use Rattle.reading.proofs.Loops.{read-stops}
-use Rattle.reading.proofs.Run.{stays, settle-took, took-inj, due-either, ends-data, taken, run-took, run-halts, run-along}
+use Rattle.reading.proofs.Run.{stays, settle-took, settle-fine, took-inj, due-either, ends-data, taken, run-took, run-halts, run-along}
 
 -- inside a radial, its sequence number is one more than the whole radials
 unfoldable pub Steady : Due → Walk → Type 0
@@ -36,11 +34,6 @@ Steady due.Radial w = Unit {0}
 Steady due.Moment w = w .present .sequence ≡ suc (w .count .whole)
 Steady due.Data w = w .present .sequence ≡ suc (w .count .whole)
 Steady due.Nothing w = Unit {0}
-
-pub settle-fine : (v : Check) (at : ℕ) (n m : Walk) → settle v at n ≡ Took m → v ≡ Fine
-unfolding settle
-settle-fine Fine at n m e = refl
-settle-fine (Broken a b) at n m e = cc
 
 steady-data : (more closes later : Bool) (w : Walk) (end : ℕ) → Steady due.Data w → Steady (afterDataIf more closes later w end .due) (afterDataIf more closes later w end)
 unfolding Steady dueIf
@@ -101,10 +94,10 @@ count-step false w m t l i c g = omega arith
 -- the stretches from a walk on, and the radials counted before it, are those counted where the run stops
 pub counted-on : (k : ℕ) (f : List ℕ) (w : Walk) → Steady (w .due) w → length (trace k f w) + w .count .whole ≡ last k f w .count .whole
 counted-on k f =
-    run-along (λ v. v) (λ v n r. r) f (λ k w v. Steady (w .due) w → length (trace k f w) + w .count .whole ≡ v .count .whole)
-    (λ k w s h. rw (run-halts (λ v. []) stretchOf k f w s) (omega arith))
+    run-along true (λ v. v) (λ v n r. r) f (λ k w v. Steady (w .due) w → length (trace k f w) + w .count .whole ≡ v .count .whole)
+    (λ k w s h. rw (run-halts true (λ v. []) stretchOf k f w s) (omega arith))
     (λ k w m v e r h. let b = taken f w m e .block in
-    rw (run-took (λ v. []) stretchOf k f w m e)
+    rw (run-took true (λ v. []) stretchOf k f w m e)
     (count-step (endsRadial (w .due) (w .rest .todo)) w m (trace k f m) (v .count .whole) (r (steady-on (w .due) _ w m h b)) (whole-on (w .due) _ w m b) (λ x. ends-steady (w .due) w h x))) k
 
 -- what reading counts

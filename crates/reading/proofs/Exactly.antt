@@ -3,7 +3,7 @@
 use Prim.Native.Nat.{ℕ, _+_, _-_, _<_, _≤_}
 use native.Mathlib.Omega.{arith}
 use mathlib.Core.Path.{_≡_, refl, sym, ap, ap₂, subst, _∙_}
-use mathlib.Core.Bool.{true, false}
+use mathlib.Core.Bool.{Bool, true, false}
 use mathlib.Core.List.{List, [], _∷_}
 use lib.Dec.{lit<}
 use lib.ListN.{length, take}
@@ -12,7 +12,7 @@ use Rattle.le.proofs.Laws.{part-take}
 use Rattle.rules.specs.Check.{Rule, verdict, Hold, First, here, behind}
 use Rattle.rules.specs.declared.check.Check.{Check}
 use Rattle.rules.specs.declared.check.Check.the-variants.{Fine, Broken}
-use Rattle.rules.proofs.Judged.{fine-if, first-decides, decided-first}
+use Rattle.rules.proofs.Judged.{all-hold, fine-if, first-decides, decided-first}
 use Rattle.cut.specs.declared.Cut.{Cut}
 use Rattle.generic.specs.declared.Generic.{Generic}
 use Rattle.moment.specs.declared.Moment.{Moment}
@@ -32,10 +32,10 @@ use Rattle.walk.specs.After.{afterGeneric, afterSite, afterTask, afterCut, afte
 use Rattle.walk.specs.Due.{sizeAt, sizeOf, isEnd, radialDue, momentDue, atStart}
 use Rattle.reading.specs.declared.step.Step.{Step}
 use Rattle.reading.specs.declared.step.Step.the-variants.{Took, Open, Refused, Complete}
-use Rattle.reading.specs.Step.{settle, takeGeneric, takeSite, takeTask, takeCut, takeRadial, takeMoment, takeData, cutIn, blockAt, stepOf}
+use Rattle.reading.specs.Step.{settle, takeGeneric, takeSite, takeTask, takeCut, takeRadial, takeMoment, takeData, cutIn, blockAt, hopeAt, hoping, stepOf}
 use Rattle.reading.specs.Reading.{fuel, stop, ending, endingTold, told}
-use Rattle.reading.specs.Exactly.{rulesOf, IsRefused, rule, trailing, IsOpen, IsComplete, ToldExactly}
-use Rattle.reading.proofs.Run.{View, short, over, done, view, is-here, is-short, is-over, is-done, ended, opened, last-within}
+use Rattle.reading.specs.Exactly.{rulesOf, IsRefused, rule, trailing, hopeless, IsOpen, IsComplete, ToldExactly}
+use Rattle.reading.proofs.Run.{View, short, over, done, view, Asked, same, lost, asks, stays, untaken, settle-fine, is-here, is-short, is-over, is-done, ended, opened, last-within}
 use Rattle.reading.proofs.Run as run
 
 -- ---- what is told, and the step that tells it
@@ -136,32 +136,49 @@ rules-within due.Moment f w = (lit< tt, (lit< tt, (lit< tt, (lit< tt, (lit< tt, 
 rules-within due.Data f w = tt
 rules-within due.Nothing f w = tt
 
--- ---- a refused step: trailing bytes, or the first broken rule of the due block, which lies in that block
+-- ---- a refused step: trailing bytes, or the first broken rule of the due block, which lies in that block, or no hope behind it
 
 pub data Refuses (f : List ℕ) (w : Walk) : ℕ → ℕ → Type 0 where
   by-rule : (n q : ℕ) → isEnd (w .due) ≡ false → w .at + sizeOf w ≤ length f → First (rulesOf (w .due) f w) n q → Refuses f w n (w .at + q)
   by-end : isEnd (w .due) ≡ true → w .at < length f → Refuses f w 25 (w .at)
+  by-hope : isEnd (w .due) ≡ false → w .at + sizeOf w ≤ length f → Hold (rulesOf (w .due) f w) → hopeAt (w .due) (take (w .at + sizeOf w) f) w ≡ false → Refuses f w 40 (w .at)
 
 settle-refused : (v : Check) (at : ℕ) (m : Walk) (n p : ℕ) → settle v at m ≡ Refused n p → (q : ℕ) × (v ≡ Broken n q) × (p ≡ at + q)
 unfolding settle
 settle-refused Fine at m n p e = absurd (let z : _≡_ {A = ℕ} 0 1 = cc in omega arith)
 settle-refused (Broken a b) at m n p e = (b, let k : a ≡ n = cc in rw k, cc)
 
+kept-rules : (rs : List Rule) (at : ℕ) (m n : Walk) → settle (verdict rs) at m ≡ Took n → Hold rs
+kept-rules rs at m n e = all-hold rs (settle-fine (verdict rs) at m n e)
+
+refused-same : (a b n p : ℕ) → Refused a b ≡ Refused n p → (a ≡ n) × (b ≡ p)
+refused-same a b n p e = (cc, cc)
+
 pub refuses : (f : List ℕ) (w : Walk) (n p : ℕ) → stepOf f w ≡ Refused n p → Refuses f w n p
 refuses f w n p e = go (view f w)
   where
     go : View f w → Refuses f w n p
-    go (run.here i h) =
-        let s = settled (w .due) f w i in
-        let x = settle-refused _ _ _ n p (sym (s .is) ∙ sym (is-here f w i h) ∙ e) in
-        subst (Refuses f w n) (sym (x .2)) (by-rule n (x .0) i h (decided-first _ n (x .0) (x .1)))
-    go (short i h) = absurd (let q = is-short f w i h in let z : _≡_ {A = ℕ} 0 1 = cc in omega arith)
+    go (run.here i h) = asked (asks (hopeAt (w .due) p′ w) (w .at) (blockAt (w .due) p′ w))
+      where
+        p′ : List ℕ
+        p′ = take (w .at + sizeOf w) f
+
+        asked : Asked (hopeAt (w .due) p′ w) (w .at) (blockAt (w .due) p′ w) → Refuses f w n p
+        asked (same q) =
+            let s = settled (w .due) f w i in
+            let x = settle-refused (verdict (rulesOf (w .due) f w)) (w .at) (s .next) n p (sym (s .is) ∙ sym q ∙ sym (is-here f w i h) ∙ e) in
+            subst (Refuses f w n) (sym (x .2)) (by-rule n (x .0) i h (decided-first (rulesOf (w .due) f w) n (x .0) (x .1)))
+        asked (lost m l t q) =
+            let s = settled (w .due) f w i in
+            let x = refused-same 40 (w .at) n p (sym q ∙ sym (is-here f w i h) ∙ e) in
+            rw (← x .0, ← x .1) (by-hope i h (kept-rules (rulesOf (w .due) f w) (w .at) (s .next) m (sym (s .is) ∙ t)) l)
+    go (short i h) = absurd (let q = is-short true f w i h in let z : _≡_ {A = ℕ} 0 1 = cc in omega arith)
     go (over i h) =
-        let q = is-over f w i h in
+        let q = is-over true f w i h in
         let a : 25 ≡ n = cc in
         let b : w .at ≡ p = cc in
         rw (← a, ← b) (by-end i h)
-    go (done i h) = absurd (let q = is-done f w i h in let z : _≡_ {A = ℕ} 0 1 = cc in omega arith)
+    go (done i h) = absurd (let q = is-done true f w i h in let z : _≡_ {A = ℕ} 0 1 = cc in omega arith)
 
 pub refused-inside : (f : List ℕ) (w : Walk) (n p : ℕ) → stepOf f w ≡ Refused n p → w .at < w .at + sizeOf w → (w .at ≤ p) × (p < w .at + sizeOf w)
 refused-inside f w n p e s = go (refuses f w n p e)
@@ -169,34 +186,40 @@ refused-inside f w n p e s = go (refuses f w n p e)
     go : {n p : ℕ} → Refuses f w n p → (w .at ≤ p) × (p < w .at + sizeOf w)
     go (by-rule n q i h x) = let k = first-within x (rules-within (w .due) f w) in (omega arith, omega arith)
     go (by-end i h) = (omega arith, s)
+    go (by-hope i h k l) = (omega arith, s)
 
 -- ---- the theorem
 
 module _ (f : List ℕ) where
   within : stop f .at ≤ length f
-  within = last-within (fuel f) f atStart (omega arith)
+  within = last-within true (fuel f) f atStart (omega arith)
 
   refused-only : {n p : ℕ} → Refuses f (stop f) n p → IsRefused f n p
   refused-only (by-rule n q i h x) = rule n q i h x
   refused-only (by-end i h) = trailing i h
+  refused-only (by-hope i h k l) = hopeless i h k l
 
   refused-when : {n p : ℕ} → IsRefused f n p → told f ≡ 2 ∷ n ∷ p ∷ []
-  unfolding endingTold
+  unfolding endingTold stays hoping
   refused-when (rule n q i h x) =
       let s = settled (stop f .due) f (stop f) i in
-      ap endingTold (is-here f (stop f) i h ∙ s .is ∙ breaking _ (stop f .at) (s .next) n q x)
-  refused-when (trailing i h) = ap endingTold (is-over f (stop f) i h)
+      let b = hopeAt (stop f .due) (take (stop f .at + sizeOf (stop f)) f) (stop f) in
+      ap endingTold (is-here f (stop f) i h ∙ ap (hoping b (stop f .at)) (s .is ∙ breaking _ (stop f .at) (s .next) n q x) ∙ untaken b (stop f .at) (Refused n (stop f .at + q)) tt)
+  refused-when (trailing i h) = ap endingTold (is-over true f (stop f) i h)
+  refused-when (hopeless i h k l) =
+      let s = settled (stop f .due) f (stop f) i in
+      ap endingTold (is-here f (stop f) i h ∙ ap₂ (λ (b : Bool) (t : Step). hoping b (stop f .at) t) l (s .is ∙ holding (rulesOf (stop f .due) f (stop f)) (stop f .at) (s .next) k))
 
   open-only : (n : ℕ) → told f ≡ 1 ∷ n ∷ [] → IsOpen f n
   open-only n e =
-      let o = opened f (stop f) n (step-open (ending f) n e) in
+      let o = opened true f (stop f) n (step-open (ending f) n e) in
       let h = o .1 in
       let k = o .2 in
       record { due = o .0; some = omega arith; missing = omega arith }
 
   complete-only : told f ≡ 0 ∷ [] → IsComplete f
   complete-only e =
-      let d = ended f (stop f) (step-done (ending f) e) in
+      let d = ended true f (stop f) (step-done (ending f) e) in
       let h = d .1 in
       let k = within in
       record { due = d .0; all = omega arith }
@@ -208,7 +231,7 @@ module _ (f : List ℕ) where
         refused-only = λ n p e. refused-only (refuses f (stop f) n p (step-of (ending f) n p e));
         refused-when = λ n p x. refused-when x;
         open-only = open-only;
-        open-when = λ n x. let m = x .missing in let k = x .some in ap endingTold (is-short f (stop f) (x .due) (omega arith) ∙ ap Open (omega arith));
+        open-when = λ n x. let m = x .missing in let k = x .some in ap endingTold (is-short true f (stop f) (x .due) (omega arith) ∙ ap Open (omega arith));
         complete-only = complete-only;
-        complete-when = λ x. let a = x .all in ap endingTold (is-done f (stop f) (x .due) (omega arith));
+        complete-when = λ x. let a = x .all in ap endingTold (is-done true f (stop f) (x .due) (omega arith));
       }

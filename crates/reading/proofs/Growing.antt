@@ -11,15 +11,15 @@ use Rattle.reading.specs.declared.Stretch.{Stretch}
 use Rattle.reading.specs.declared.step.Step.{Step}
 use Rattle.reading.specs.declared.step.Step.the-variants.{Took, Open, Refused, Complete}
 use Rattle.walk.specs.Due.{sizeOf, isEnd, endsRadial, atStart}
-use Rattle.reading.specs.Step.{blockAt, stepOf}
+use Rattle.reading.specs.Step.{sayBlock, stepOf}
 use Rattle.reading.specs.Reading.{walkOn, last, fuel, stop, ending, stretchIf, stretchOf, trace, stretches}
-use Rattle.reading.proofs.Run.{View, here, short, over, done, view, is-here, is-short, is-over, is-done, Plain, took, refused, block-plain, ended, opened, left, taken, stays, run-stays, run-halts, run-took, run-along, run-holds, run-step, enough}
+use Rattle.reading.proofs.Run.{View, here, short, over, done, view, is-here, is-short, is-over, is-done, Plain, here-plain, ended, opened, left, taken, stays, run-stays, run-halts, run-took, run-along, run-holds, run-step, enough}
 
 -- a block that is there reads the same
 same-here : (A C : List ℕ) (w : Walk) → isEnd (w .due) ≡ false → w .at + sizeOf w ≤ length A → stepOf (A ++ C) w ≡ stepOf A w
 same-here A C w i h =
     is-here (A ++ C) w i (omega (arith, length-append A C))
-    ∙ ap (λ (p : List ℕ). blockAt (w .due) p w) (take-append-le (w .at + sizeOf w) A C h)
+    ∙ ap (λ (p : List ℕ). sayBlock (w .due) p w) (take-append-le (w .at + sizeOf w) A C h)
     ∙ sym (is-here A w i h)
 
 -- a step that took or refused says the same after growth
@@ -31,16 +31,16 @@ keeps-refused A C w n p e = go (view A w)
   where
     go : View A w → stepOf (A ++ C) w ≡ Refused n p
     go (here i h) = same-here A C w i h ∙ e
-    go (short i h) = let q = is-short A w i h in cc
-    go (over i h) = is-over (A ++ C) w i (omega (arith, length-append A C)) ∙ sym (is-over A w i h) ∙ e
-    go (done i h) = let q = is-done A w i h in cc
+    go (short i h) = let q = is-short true A w i h in cc
+    go (over i h) = is-over true (A ++ C) w i (omega (arith, length-append A C)) ∙ sym (is-over true A w i h) ∙ e
+    go (done i h) = let q = is-done true A w i h in cc
 
 -- an end that is reached: bytes that follow are refused
 pub grows-complete : (A C : List ℕ) (w : Walk) → w .at ≤ length A → stepOf A w ≡ Complete → 0 < length C → stepOf (A ++ C) w ≡ Refused 25 (length A)
 grows-complete A C w b e c =
-    let d = ended A w e in
+    let d = ended true A w e in
     let h = d .1 in
-    is-over (A ++ C) w (d .0) (omega (arith, length-append A C)) ∙ ap (Refused 25) (omega arith)
+    is-over true (A ++ C) w (d .0) (omega (arith, length-append A C)) ∙ ap (Refused 25) (omega arith)
 
 -- an open block: how much is missing, and what becomes of it
 pub record Opens (A C : List ℕ) (w : Walk) (n : ℕ) : Type 0 where
@@ -49,21 +49,17 @@ pub record Opens (A C : List ℕ) (w : Walk) (n : ℕ) : Type 0 where
   pub further : n ≤ length C → Plain (stepOf (A ++ C) w)
   pub size : w .at < w .at + sizeOf w
 
-plain-same : (s t : Step) → s ≡ t → Plain t → Plain s
-plain-same s t e (took m q) = took m (e ∙ q)
-plain-same s t e (refused n p q) = refused n p (e ∙ q)
-
 pub grows-open : (A C : List ℕ) (w : Walk) (n : ℕ) → w .at ≤ length A → stepOf A w ≡ Open n → Opens A C w n
 grows-open A C w n b e =
-    let o = opened A w n e in
+    let o = opened true A w n e in
     let i = o .0 in
     let h = o .1 in
     let q = o .2 in
     let l = length-append A C in
     record {
       some = omega arith;
-      still = λ c. is-short (A ++ C) w i (omega arith) ∙ ap Open (omega arith);
-      further = λ c. plain-same _ _ (is-here (A ++ C) w i (omega arith)) (block-plain (w .due) _ w i);
+      still = λ c. is-short true (A ++ C) w i (omega arith) ∙ ap Open (omega arith);
+      further = λ c. here-plain true (A ++ C) w i (omega arith);
       size = omega arith;
     }
 
@@ -72,15 +68,15 @@ grows-open A C w n b e =
 module _ {X : Type 0} (z : Walk → X) (s : Walk → Walk → X → X) where
   run-grows : (k K : ℕ) (A C : List ℕ) (w : Walk) → left (A ++ C) w < K → walkOn z s K (A ++ C) w ≡ walkOn (walkOn z s K (A ++ C)) s k A w
   run-grows k K A C =
-      run-holds (walkOn z s K (A ++ C)) s A (λ w x. left (A ++ C) w < K → walkOn z s K (A ++ C) w ≡ x) (λ w h. refl)
+      run-holds true (walkOn z s K (A ++ C)) s A (λ w x. left (A ++ C) w < K → walkOn z s K (A ++ C) w ≡ x) (λ w h. refl)
       (λ w m x e r h. let b = keeps-took A C w m e in let t = taken (A ++ C) w m b .less in
-      run-step z s K (A ++ C) w m h b ∙ ap (s w m) (r (omega arith))) k
+      run-step true z s K (A ++ C) w m h b ∙ ap (s w m) (r (omega arith))) k
 
 -- the rest, put in at the stop
 last-rest : {X : Type 0} (y : Walk → X) (k : ℕ) (f : List ℕ) (w : Walk) → walkOn y (λ v n r. r) k f w ≡ y (last k f w)
 last-rest y k f =
-    run-along y (λ v n r. r) f (λ k w x. x ≡ y (last k f w)) (λ k w h. ap y (sym (run-halts (λ v. v) (λ v n r. r) k f w h)))
-    (λ k w m x e r. r ∙ ap y (sym (run-took (λ v. v) (λ v n r. r) k f w m e))) k
+    run-along true y (λ v n r. r) f (λ k w x. x ≡ y (last k f w)) (λ k w h. ap y (sym (run-halts true (λ v. v) (λ v n r. r) k f w h)))
+    (λ k w m x e r. r ∙ ap y (sym (run-took true (λ v. v) (λ v n r. r) k f w m e))) k
 
 stretch-append : (b : Bool) (w n : Walk) (r t : List Stretch) → stretchIf b w n (r ++ t) ≡ stretchIf b w n r ++ t
 unfolding stretchIf
@@ -89,10 +85,10 @@ stretch-append false w n r t = refl
 
 trace-rest : (y : Walk → List Stretch) (k : ℕ) (f : List ℕ) (w : Walk) → walkOn y stretchOf k f w ≡ trace k f w ++ y (last k f w)
 trace-rest y k f =
-    run-along y stretchOf f (λ k w x. x ≡ trace k f w ++ y (last k f w))
-    (λ k w h. rw (run-halts (λ v. []) stretchOf k f w h, run-halts (λ v. v) (λ v n r. r) k f w h))
+    run-along true y stretchOf f (λ k w x. x ≡ trace k f w ++ y (last k f w))
+    (λ k w h. rw (run-halts true (λ v. []) stretchOf k f w h, run-halts true (λ v. v) (λ v n r. r) k f w h))
     (λ k w m x e r. ap (stretchOf w m) r ∙ stretch-append (endsRadial (w .due) (w .rest .todo)) w m (trace k f m) (y (last k f m))
-    ∙ sym (ap₂ (λ (t : List Stretch) (v : Walk). t ++ y v) (run-took (λ v. []) stretchOf k f w m e) (run-took (λ v. v) (λ v n r. r) k f w m e))) k
+    ∙ sym (ap₂ (λ (t : List Stretch) (v : Walk). t ++ y v) (run-took true (λ v. []) stretchOf k f w m e) (run-took true (λ v. v) (λ v n r. r) k f w m e))) k
 
 -- ---- the longer file's run goes through the stop of the shorter's, and every whole radial of A is in A ++ C
 
@@ -112,9 +108,9 @@ module _ (A C : List ℕ) where
   pub rests : (t : Step) → stays t → stepOf (A ++ C) (stop A) ≡ t → Rests t
   rests t h e =
       let s = subst⁻¹ stays e h in
-      let a = through ∙ run-stays (λ v. v) (λ v n r. r) (fuel (A ++ C)) (A ++ C) (stop A) s in
+      let a = through ∙ run-stays true (λ v. v) (λ v n r. r) (fuel (A ++ C)) (A ++ C) (stop A) s in
       record {
         at = a;
-        radials = kept ∙ ap (λ (t : List Stretch). stretches A ++ t) (run-stays (λ v. []) stretchOf (fuel (A ++ C)) (A ++ C) (stop A) s) ∙ append-nil (stretches A);
+        radials = kept ∙ ap (λ (t : List Stretch). stretches A ++ t) (run-stays true (λ v. []) stretchOf (fuel (A ++ C)) (A ++ C) (stop A) s) ∙ append-nil (stretches A);
         told = ap (stepOf (A ++ C)) a ∙ e;
       }

@@ -38,19 +38,19 @@ same-if false A C w m r h s = s
 
 same-trace : (k : ℕ) (A C : List ℕ) (w : Walk) → Same A (A ++ C) (trace k A w)
 same-trace k A C =
-    run-holds (λ v. []) stretchOf A (λ w r. Same A (A ++ C) r) (λ w. tt)
+    run-holds true (λ v. []) stretchOf A (λ w r. Same A (A ++ C) r) (λ w. tt)
     (λ w m r e s. same-if (endsRadial (w .due) (w .rest .todo)) A C w m r (taken A w m e .within) s) k
 
 -- ---- a walk goes on, never back
 
 pub last-onward : (k : ℕ) (f : List ℕ) (w : Walk) → w .at ≤ last k f w .at
-last-onward k f w = last-holds f (λ v. w .at ≤ v .at) (λ v m e h. let t = taken f v m e .end in omega arith) k w (omega arith)
+last-onward k f w = last-holds true f (λ v. w .at ≤ v .at) (λ v m e h. let t = taken f v m e .end in omega arith) k w (omega arith)
 
 -- ---- the theorem
 
 module _ (A C : List ℕ) (some : 0 < length C) where
   within : stop A .at ≤ length A
-  within = last-within (fuel A) A atStart (omega arith)
+  within = last-within true (fuel A) A atStart (omega arith)
 
   goes-on : Plain (stepOf (A ++ C) (stop A)) → stop A .at < stop A .at + sizeOf (stop A) → Further A (A ++ C)
   unfolding stays endingTold

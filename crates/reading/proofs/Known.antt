@@ -16,7 +16,7 @@ use Rattle.walk.specs.Due.{sizeAt, isEnd, endsRadial, dueIf}
 use Rattle.reading.specs.declared.Onward.the-variants.{Whole}
 use Rattle.reading.specs.declared.step.Step.{Step}
 use Rattle.reading.specs.declared.step.Step.the-variants.{Took, Open, Refused, Complete}
-use Rattle.reading.specs.Step.{takeRadial, takeMoment, blockAt, stepOf}
+use Rattle.reading.specs.Step.{takeRadial, takeMoment, blockAt, sayBlock, stepOf}
 use Rattle.reading.specs.Reading.{stretch, advanceIf, advanceOf}
 use Rattle.reading.proofs.step.Step.{the-type}
 use Rattle.reading.proofs.Loops.{advance-step}
@@ -31,14 +31,14 @@ not-took (Refused n p) h = tt
 not-took Complete h = tt
 
 module _ (f : List ℕ) (w : Walk) (d : Due) (is : w .due ≡ d) where
-  pub known-here : isEnd d ≡ false → w .at + sizeAt d (w .rest .length) ≤ length f → stepOf f w ≡ blockAt d (take (w .at + sizeAt d (w .rest .length)) f) w
+  pub known-here : isEnd d ≡ false → w .at + sizeAt d (w .rest .length) ≤ length f → stepOf f w ≡ sayBlock d (take (w .at + sizeAt d (w .rest .length)) f) w
   known-here i h =
       is-here f w (ap isEnd is ∙ i) (subst⁻¹ (λ (d : Due). w .at + sizeAt d (w .rest .length) ≤ length f) is h)
-      ∙ ap (λ (d : Due). blockAt d (take (w .at + sizeAt d (w .rest .length)) f) w) is
+      ∙ ap (λ (d : Due). sayBlock d (take (w .at + sizeAt d (w .rest .length)) f) w) is
 
   pub known-short : isEnd d ≡ false → length f < w .at + sizeAt d (w .rest .length) → stepOf f w ≡ Open (w .at + sizeAt d (w .rest .length) - length f)
   known-short i h =
-      is-short f w (ap isEnd is ∙ i) (subst⁻¹ (λ (d : Due). length f < w .at + sizeAt d (w .rest .length)) is h)
+      is-short true f w (ap isEnd is ∙ i) (subst⁻¹ (λ (d : Due). length f < w .at + sizeAt d (w .rest .length)) is h)
       ∙ ap (λ (d : Due). Open (w .at + sizeAt d (w .rest .length) - length f)) is
 
   known-block : (n : Walk) → stepOf f w ≡ Took n → blockAt d (take (w .at + sizeAt d (w .rest .length)) f) w ≡ Took n

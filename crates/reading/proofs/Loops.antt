@@ -19,22 +19,22 @@ use Rattle.reading.proofs.Run.{stays, run-step, run-stays, run-stops, e
 -- ---- read: the walks of the loop are those of the reading
 
 pub last-step : (f : List ℕ) (w n : Walk) → stepOf f w ≡ Took n → last (fuel f) f w ≡ last (fuel f) f n
-last-step f w n e = run-step (λ v. v) (λ v n r. r) (fuel f) f w n (enough f w) e
+last-step f w n e = run-step true (λ v. v) (λ v n r. r) (fuel f) f w n (enough f w) e
 
 pub read-stops : (f : List ℕ) (w : Walk) → stop f ≡ last (fuel f) f w → stays (stepOf f w) → stop f ≡ w
-read-stops f w i h = i ∙ run-stays (λ v. v) (λ v n r. r) (fuel f) f w h
+read-stops f w i h = i ∙ run-stays true (λ v. v) (λ v n r. r) (fuel f) f w h
 
 -- ---- advance: on to a radial's last data, past it, or to the stop
 
 pub advance-step : (f : List ℕ) (w n : Walk) (b : Bool) → stepOf f w ≡ Took n → endsRadial (w .due) (w .rest .todo) ≡ b → advanceOf f w ≡ advanceIf b w n (advanceOf f n)
-advance-step f w n b e t = run-step (λ v. Stopped v) onTo (fuel f) f w n (enough f w) e ∙ ap (λ (b : Bool). advanceIf b w n (advanceOf f n)) t
+advance-step f w n b e t = run-step true (λ v. Stopped v) onTo (fuel f) f w n (enough f w) e ∙ ap (λ (b : Bool). advanceIf b w n (advanceOf f n)) t
 
 pub advance-stops : (f : List ℕ) (w : Walk) → stays (stepOf f w) → advanceOf f w ≡ Stopped w
-advance-stops f w h = run-stays (λ v. Stopped v) onTo (fuel f) f w h
+advance-stops f w h = run-stays true (λ v. Stopped v) onTo (fuel f) f w h
 
 -- the stretches from a walk on, by a step
 trace-step : (f : List ℕ) (w n : Walk) (b : Bool) → stepOf f w ≡ Took n → endsRadial (w .due) (w .rest .todo) ≡ b → trace (fuel f) f w ≡ stretchIf b w n (trace (fuel f) f n)
-trace-step f w n b e t = run-step (λ v. []) stretchOf (fuel f) f w n (enough f w) e ∙ ap (λ (b : Bool). stretchIf b w n (trace (fuel f) f n)) t
+trace-step f w n b e t = run-step true (λ v. []) stretchOf (fuel f) f w n (enough f w) e ∙ ap (λ (b : Bool). stretchIf b w n (trace (fuel f) f n)) t
 
 -- what an advance to a whole radial says: the walk's stretches begin with it, and the walk after it is nearer to the end
 pub record Further (f : List ℕ) (w : Walk) (s : Stretch) (n : Walk) : Type 0 where
@@ -62,8 +62,8 @@ says-step f w m false (Stopped v) e p x = (trace-step f w m false e p ∙ x .0, 
 
 says : (f : List ℕ) (w : Walk) → Says f w (advanceOf f w)
 says f w =
-    run-stops (λ v. Stopped v) onTo f (Says f)
-    (λ v h. (run-stays (λ v. []) stretchOf (fuel f) f v h, run-stays (λ v. v) (λ v n r. r) (fuel f) f v h))
+    run-stops true (λ v. Stopped v) onTo f (Says f)
+    (λ v h. (run-stays true (λ v. []) stretchOf (fuel f) f v h, run-stays true (λ v. v) (λ v n r. r) (fuel f) f v h))
     (λ v m o e. says-step f v m (endsRadial (v .due) (v .rest .todo)) o e refl) (fuel f) w (enough f w)
 
 pub further : (f : List ℕ) (w : Walk) (s : Stretch) (n : Walk) → advanceOf f w ≡ Whole s n → Further f w s n

@@ -35,9 +35,8 @@ use Rattle.walk.specs.After.{closesCut, afterRadial, afterMoment}
 use Rattle.reading.specs.Step.{takeGeneric, takeSite, takeTask, takeCut, takeRadial, takeMoment, takeData, cutIn, blockAt, stepOf}
 use Rattle.reading.specs.Reading.{fuel, stretch, trace, stretches, advanceIf, onTo, advanceOf}
 use Rattle.reading.specs.Tiling.{dueWith, Tiled, none, more, WholeRadial, AllWhole}
-use Rattle.reading.proofs.Counts.{settle-fine}
 use Rattle.reading.proofs.Loops.{further, no-more}
-use Rattle.reading.proofs.Run.{settle-took, dataThen, took-more, took-last, due-either, ends-data, left, taken, run-holds, enough}
+use Rattle.reading.proofs.Run.{settle-fine, settle-took, dataThen, took-more, took-last, due-either, ends-data, left, taken, run-holds, enough}
 
 -- ---- a block is the same in the file and in the part of it that ends with the block
 
@@ -211,7 +210,7 @@ leads-step f w m false (Stopped v) e p r = tt
 leads : (f : List ℕ) (w : Walk) (s : Stretch) (n : Walk) → advanceOf f w ≡ Whole s n → Leads f w (Whole s n)
 leads f w s n e =
     subst (Leads f w) e
-    (run-holds (λ v. Stopped v) onTo f (Leads f) (λ v. tt) (λ v m o q. leads-step f v m (endsRadial (v .due) (v .rest .todo)) o q refl) (fuel f) w)
+    (run-holds true (λ v. Stopped v) onTo f (Leads f) (λ v. tt) (λ v m o q. leads-step f v m (endsRadial (v .due) (v .rest .todo)) o q refl) (fuel f) w)
 
 -- from between radials, an advance comes to a whole radial that starts at or after the walk's place
 pub outside : (f : List ℕ) (w : Walk) (s : Stretch) (n : Walk) → Between (w .due) → advanceOf f w ≡ Whole s n → Outside f w s

@@ -17,7 +17,7 @@ use Rattle.reading.specs.declared.Found.the-variants.{There}
 use Rattle.reading.specs.declared.Stretch.{Stretch}
 use Rattle.reading.specs.declared.step.Step.the-variants.{Took}
 use Rattle.reading.specs.Step.{takeGeneric, takeSite, takeTask, takeCut, takeRadial, takeMoment, takeData, blockAt, stepOf}
-use Rattle.reading.specs.Reading.{fuel, stretchIf, stretchOf, walkOn, trace, stretches, nth}
+use Rattle.reading.specs.Reading.{fuel, stretchIf, stretchOf, walkBy, trace, stretches, nth}
 use Rattle.reading.proofs.Counts.{Steady, steady-on, counted-on}
 use Rattle.reading.proofs.Run.{settle-took, took-inj, due-either, ends-data, taken, run-took, run-holds}
 
@@ -68,15 +68,15 @@ module _ (f : List ℕ) where
   number-step false w m t c g r = let none : m .count .whole ≡ w .count .whole = omega arith in subst (λ (n : ℕ). Sequenced n t) none r
 
   counted : (w m : Walk) → Steady (w .due) w → stepOf f w ≡ Took m → length (stretchOf w m []) + w .count .whole ≡ m .count .whole
-  unfolding walkOn
+  unfolding walkBy
   counted w m s e =
-      ap (λ (l : List Stretch). length l + w .count .whole) (sym (run-took (λ v. []) stretchOf 0 f w m e))
+      ap (λ (l : List Stretch). length l + w .count .whole) (sym (run-took true (λ v. []) stretchOf 0 f w m e))
       ∙ counted-on 1 f w s
-      ∙ ap (λ (x : Walk). x .count .whole) (run-took (λ v. v) (λ v n r. r) 0 f w m e)
+      ∙ ap (λ (x : Walk). x .count .whole) (run-took true (λ v. v) (λ v n r. r) 0 f w m e)
 
   sequenced-on : (k : ℕ) (w : Walk) → Steady (w .due) w → Headed (w .due) w → Sequenced (w .count .whole) (trace k f w)
   sequenced-on =
-      run-holds (λ v. []) stretchOf f (λ w l. Steady (w .due) w → Headed (w .due) w → Sequenced (w .count .whole) l) (λ w s h. tt)
+      run-holds true (λ v. []) stretchOf f (λ w l. Steady (w .due) w → Headed (w .due) w → Sequenced (w .count .whole) l) (λ w s h. tt)
       (λ w m l e r s h. let b = taken f w m e .block in
       number-step (endsRadial (w .due) (w .rest .todo)) w m l (counted w m s e) (number w s h) (r (steady-on (w .due) _ w m s b) (headed-on (w .due) w m h b)))
 

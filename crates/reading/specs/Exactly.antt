@@ -1,11 +1,11 @@
 -- When a file is refused, open or complete (document 01, "refused exactly when" and "What reading tells"): exactly when the
--- block that is due, behind the last accepted one, breaks a rule, is not all there, or no block is due any more.
+-- block that is due, behind the last accepted one, breaks a rule or ends hope, is not all there, or no block is due any more.
 use mathlib.Core.Bool.{true, false}
 use mathlib.Core.List.{List, [], _∷_}
 use mathlib.Core.Path.{_≡_}
 use Prim.Native.Nat.{ℕ, _+_, _<_, _≤_}
-use lib.ListN.{length}
-use Rattle.rules.specs.Check.{Rule, First}
+use lib.ListN.{length, take}
+use Rattle.rules.specs.Check.{Rule, Hold, First}
 use Rattle.cut.specs.Cut.{cutAt, cutRules}
 use Rattle.generic.specs.Generic.{genericAt, genericRules}
 use Rattle.moment.specs.Moment.{momentAt, momentRules}
@@ -16,6 +16,7 @@ use Rattle.walk.specs.declared.due.Due.{Due}
 use Rattle.walk.specs.declared.due.Due.the-variants as due
 use Rattle.walk.specs.declared.due.Walk.{Walk}
 use Rattle.walk.specs.Due.{sizeOf, isEnd, radialDue, momentDue}
+use Rattle.reading.specs.Step.{hopeAt}
 use Rattle.reading.specs.Reading.{stop, told}
 
 -- the rules of the block that is due, in byte order, of its record in f; data has none ("Field rules and refusal numbers")
@@ -30,10 +31,13 @@ rulesOf due.Data f w = []
 rulesOf due.Nothing f w = []
 
 -- a file to be refused: its due block is all there, and the first broken rule of that block's list has this number, at this
--- place less the block's; or bytes follow a complete volume (number 25)
+-- place less the block's; or bytes follow a complete volume (number 25); or the due block keeps its rules, and no hope is left behind
+-- it (number 40, at the block's first byte: document 02, #110)
 pub data IsRefused (f : List ℕ) : ℕ → ℕ → Type 0 where
   rule : (n q : ℕ) → isEnd (stop f .due) ≡ false → stop f .at + sizeOf (stop f) ≤ length f → First (rulesOf (stop f .due) f (stop f)) n q → IsRefused f n (stop f .at + q)
   trailing : isEnd (stop f .due) ≡ true → stop f .at < length f → IsRefused f 25 (stop f .at)
+  hopeless : isEnd (stop f .due) ≡ false → stop f .at + sizeOf (stop f) ≤ length f → Hold (rulesOf (stop f .due) f (stop f))
+      → hopeAt (stop f .due) (take (stop f .at + sizeOf (stop f)) f) (stop f) ≡ false → IsRefused f 40 (stop f .at)
 
 -- an open one: so many bytes are missing from the block that is due
 pub record IsOpen (f : List ℕ) (n : ℕ) : Type 0 where

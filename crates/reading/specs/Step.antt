@@ -1,4 +1,5 @@
--- One step of the walk: the due block, taken or refused, or what is missing of it.
+-- One step of the walk: the due block, taken or refused, or what is missing of it. The plain step asks the block's own rules alone; the
+-- step that reading goes by asks for hope besides (document 02, #110).
 use Prim.Native.Nat.{ℕ, _+_, _-_}
 use mathlib.Core.Bool.{Bool, true, false}
 use mathlib.Core.List.{List}
@@ -25,6 +26,7 @@ use Rattle.reading.specs.declared.step.Step.{Step}
 use Rattle.reading.specs.declared.step.Step.the-variants.{Took, Open, Refused, Complete}
 use Rattle.walk.specs.Due.{sizeOf, isEnd, radialDue, momentDue, cutPlace}
 use Rattle.walk.specs.After.{afterGeneric, afterSite, afterTask, afterCut, afterRadial, afterMoment, afterData}
+use Rattle.walk.specs.Hope.{momentsHope, radialHope}
 
 -- a block that keeps its rules is taken; the first broken rule gives the number, and the place in the file
 unfoldable pub settle : Check → ℕ → Walk → Step
@@ -77,11 +79,73 @@ unfoldable pub pick : Bool → Step → Step → Step
 pick true a b = a
 pick false a b = b
 
--- a block is looked at only when all its bytes are there; after the last block no byte may follow (number 25)
-unfoldable pub stepOf : List ℕ → Walk → Step
-stepOf f w =
+-- by its own rules alone: a block is looked at only when all its bytes are there; after the last block no byte may follow (number 25)
+unfoldable pub plainly : List ℕ → Walk → Step
+plainly f w =
     pick (isEnd (w .due))
     (pick (ltb (w .at) (length f)) (Refused 25 (w .at)) Complete)
     (pick (leb (w .at + sizeOf w) (length f))
     (blockAt (w .due) (take (w .at + sizeOf w) f) w)
     (Open (w .at + sizeOf w - length f)))
+
+-- ---- hope (document 02, #110)
+
+-- whether hope is left behind a block that is taken. A cut's moments mask has a bit, or no radial of it can hold a moment; behind a
+-- header, what must still come can come. No other block ends hope
+unfoldable pub hopeAfterCut : Cut → Bool
+hopeAfterCut r = ltb 0 (r .«moments_mask»)
+
+abbrev pub hopeByMasks : Radial → ℕ → ℕ → Walk → Bool
+hopeByMasks r mask sizes w = radialHope (afterRadial r mask sizes w (w .at + radialSize))
+
+unfoldable pub hopeAfterRadial : Radial → Cut → Walk → Bool
+hopeAfterRadial r c w = hopeByMasks r (c .«moments_mask») (c .«size_mask») w
+
+unfoldable pub hopeAfterMoment : Moment → Walk → Bool
+hopeAfterMoment r w = momentsHope (afterMoment r w (w .at + momentSize))
+
+-- the same of the due block, in the file's bytes up to its end
+unfoldable pub hopeAt : Due → List ℕ → Walk → Bool
+hopeAt due.Generic p w = true
+hopeAt due.Site p w = true
+hopeAt due.Task p w = true
+hopeAt due.Cut p w = hopeAfterCut (cutAt p (w .at))
+hopeAt due.Radial p w = hopeAfterRadial (radialAt p (w .at)) (cutIn p w) w
+hopeAt due.Moment p w = hopeAfterMoment (momentAt p (w .at)) w
+hopeAt due.Data p w = true
+hopeAt due.Nothing p w = true
+
+-- a block that its own rules take is taken where hope is left behind it; where none is, it is refused by 40, at its first byte
+unfoldable pub hoping : Bool → ℕ → Step → Step
+hoping true at says = says
+hoping false at (Took n) = Refused 40 at
+hoping false at (Refused n p) = Refused n p
+hoping false at (Open m) = Open m
+hoping false at Complete = Complete
+
+-- what is then said of a record where it is due, and of the due block in the file's bytes up to its end
+abbrev pub sayCut : Cut → Walk → Step
+sayCut r w = hoping (hopeAfterCut r) (w .at) (takeCut r w)
+
+abbrev pub sayByMasks : Radial → ℕ → ℕ → Walk → Step
+sayByMasks r mask sizes w = hoping (hopeByMasks r mask sizes w) (w .at) (takeByMasks r mask sizes w)
+
+abbrev pub sayRadial : Radial → Cut → Walk → Step
+sayRadial r c w = hoping (hopeAfterRadial r c w) (w .at) (takeRadial r c w)
+
+abbrev pub sayMoment : Moment → Walk → Step
+sayMoment r w = hoping (hopeAfterMoment r w) (w .at) (takeMoment r w)
+
+abbrev pub sayBlock : Due → List ℕ → Walk → Step
+sayBlock d p w = hoping (hopeAt d p w) (w .at) (blockAt d p w)
+
+-- one step, of the plain reading or, where hope is asked for, of the reading
+unfoldable pub stepBy : Bool → List ℕ → Walk → Step
+stepBy false f w = plainly f w
+stepBy true f w = hoping (hopeAt (w .due) (take (w .at + sizeOf w) f) w) (w .at) (plainly f w)
+
+abbrev pub plainStep : List ℕ → Walk → Step
+plainStep f w = stepBy false f w
+
+abbrev pub stepOf : List ℕ → Walk → Step
+stepOf f w = stepBy true f w

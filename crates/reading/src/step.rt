@@ -9,7 +9,7 @@ ghost use Rattle.radial.specs.Radial.{radialAt, radialSize};
 ghost use Rattle.site.specs.Site.{siteAt, siteSize};
 ghost use Rattle.task.specs.Task.{taskAt, taskSize};
 ghost use Rattle.walk.specs.Due.{sizeOf};
-ghost use Rattle.reading.specs.Step.{settle as settleOf, takeGeneric, takeSite, takeTask, takeCut, takeRadial, takeMoment, cutIn, blockAt, stepOf};
+ghost use Rattle.reading.specs.Step.{settle as settleOf, takeGeneric, takeSite, takeTask, cutIn, hopeAfterCut, hoping as hopingOf, sayCut, sayRadial, sayMoment, sayBlock, stepOf};
 use cut::Cut;
 use generic::Generic;
 use moment::Moment;
@@ -23,6 +23,7 @@ use walk::due::Walk;
 use walk::due::cut_place;
 use walk::due::is_end;
 use walk::due::size_at;
+use walk::hope;
 
 pub enum Step {
     // The due block is there and keeps its rules: the walk after it.
@@ -44,6 +45,26 @@ pub(crate) fn settle(check: Check, at: usize, next: Walk) -> Step
         Check::Fine => Step::Took(next),
         Check::Broken(n, p) => Step::Refused(n, at + (p as usize)),
     }
+}
+
+// A block behind which no hope is left is refused at its first byte, where its own rules do not refuse it (document 02, #110).
+pub(crate) fn hoping(hope: bool, at: usize, says: Step) -> Step
+    ensures { λ r. ⌜ r ≡ hopingOf hope at says ⌝ }
+{
+    if hope {
+        return says;
+    }
+    let Step::Took(_) = says else {
+        return says;
+    };
+    Step::Refused(40, at)
+}
+
+// Whether a cut's moments mask has a bit: with none, no radial of it can hold a moment.
+pub(crate) fn some_moment(r: Cut) -> bool
+    ensures { λ b. ⌜ b ≡ hopeAfterCut r ⌝ }
+{
+    0 < r.moments_mask
 }
 
 // Each block below is found in p, the file up to the block's end.
@@ -80,41 +101,42 @@ fn task(p: &[u8], w: Walk) -> Step
 
 fn cut(p: &[u8], w: Walk) -> Step
     requires { ⌜ length (now p) ≡ w .at + cutSize ⌝ }
-    ensures { λ r. ⌜ r ≡ takeCut (cutAt (now (p .entry)) (w .at)) w ⌝ }
+    ensures { λ r. ⌜ r ≡ sayCut (cutAt (now (p .entry)) (w .at)) w ⌝ }
 {
     let at = w.at;
     let r = Cut::read(p, at);
-    settle(r.check(), at, after::cut(w, p.len()))
+    let says = settle(r.check(), at, after::cut(w, p.len()));
+    hoping(some_moment(r), at, says)
 }
 
 fn radial(p: &[u8], w: Walk) -> Step
     requires { ⌜ length (now p) ≡ w .at + radialSize ⌝ }
-    ensures { λ r. ⌜ r ≡ takeRadial (radialAt (now (p .entry)) (w .at)) (cutIn (now (p .entry)) w) w ⌝ }
+    ensures { λ r. ⌜ r ≡ sayRadial (radialAt (now (p .entry)) (w .at)) (cutIn (now (p .entry)) w) w ⌝ }
 {
     let at = w.at;
     let r = Radial::read(p, at);
     let place = cut_place(w.count.cut);
     let mask = le::u64_at(p, place + Cut::MOMENTS_MASK);
     let sizes = le::u64_at(p, place + Cut::SIZE_MASK);
-    settle(
-        r.check(w.radial_due()),
-        at,
-        after::radial(r, mask, sizes, w, p.len()),
-    )
+    let next = after::radial(r, mask, sizes, w, p.len());
+    let says = settle(r.check(w.radial_due()), at, next);
+    hoping(hope::radial(next), at, says)
 }
 
 fn moment(p: &[u8], w: Walk) -> Step
     requires { ⌜ length (now p) ≡ w .at + momentSize ⌝ }
-    ensures { λ r. ⌜ r ≡ takeMoment (momentAt (now (p .entry)) (w .at)) w ⌝ }
+    ensures { λ r. ⌜ r ≡ sayMoment (momentAt (now (p .entry)) (w .at)) w ⌝ }
 {
     let at = w.at;
     let r = Moment::read(p, at);
-    settle(r.check(w.moment_due()), at, after::moment(r, w, p.len()))
+    let next = after::moment(r, w, p.len());
+    let says = settle(r.check(w.moment_due()), at, next);
+    hoping(hope::moments(next), at, says)
 }
 
 fn block(p: &[u8], w: Walk) -> Step
     requires { ⌜ length (now p) ≡ w .at + sizeOf w ⌝ }
-    ensures { λ r. ⌜ r ≡ blockAt (w .due) (now (p .entry)) w ⌝ }
+    ensures { λ r. ⌜ r ≡ sayBlock (w .due) (now (p .entry)) w ⌝ }
 {
     let due = w.due;
     match due {

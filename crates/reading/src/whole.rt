@@ -11,6 +11,7 @@ ghost use Rattle.reading.specs.Reading.{advanceOf};
 use crate::Onward;
 use crate::Stretch;
 use crate::step::Step;
+use crate::step::hoping;
 use crate::step::settle;
 use cut::Cut;
 use moment::Moment;
@@ -18,6 +19,7 @@ use radial::Radial;
 use walk::after;
 use walk::due::Walk;
 use walk::due::cut_place;
+use walk::hope;
 
 // The step where a radial header is due.
 fn radial_step(file: &[u8], w: Walk) -> Step
@@ -36,11 +38,9 @@ fn radial_step(file: &[u8], w: Walk) -> Step
     let place = cut_place(w.count.cut);
     let mask = le::u64_at(p, place + Cut::MOMENTS_MASK);
     let sizes = le::u64_at(p, place + Cut::SIZE_MASK);
-    settle(
-        r.check(w.radial_due()),
-        at,
-        after::radial(r, mask, sizes, w, end),
-    )
+    let next = after::radial(r, mask, sizes, w, end);
+    let says = settle(r.check(w.radial_due()), at, next);
+    hoping(hope::radial(next), at, says)
 }
 
 // The step where a moment header is due.
@@ -56,7 +56,9 @@ fn moment_step(file: &[u8], w: Walk) -> Step
     }
     let end = at + Moment::SIZE;
     let r = Moment::read(&file[..end], at);
-    settle(r.check(w.moment_due()), at, after::moment(r, w, end))
+    let next = after::moment(r, w, end);
+    let says = settle(r.check(w.moment_due()), at, next);
+    hoping(hope::moments(next), at, says)
 }
 
 // The step where data is due.

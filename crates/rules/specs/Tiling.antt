@@ -21,6 +21,10 @@ momentNumberOk left k = among (pos 1) (pos 64) (int k) && leb (leastMoment * k) 
 unfoldable pub tiles : ℕ → ℕ → ℕ → Bool
 tiles todo left n = cond (leb todo 1) (eqb (momentHeader + n) left) (leb (momentHeader + n + leastMoment * (todo - 1)) left)
 
+-- number 24: the most bytes that a moment's data has
+abbrev pub mostLength : ℕ
+mostLength = 32768
+
 -- number 24: a length 1..32,768, a multiple of bin length, right for the tiling
 unfoldable pub lengthOk : ℕ → ℕ → ℕ → ℕ → Bool
-lengthOk todo left bin n = among (pos 1) (pos 32768) (int n) && eqb (n % bin) 0 && tiles todo left n
+lengthOk todo left bin n = among (pos 1) (pos mostLength) (int n) && eqb (n % bin) 0 && tiles todo left n

@@ -24,9 +24,9 @@ pub before-block : (f : List ℕ) (E : Walk → Type 0) (w m : Walk) (b : Bool) 
 before-block f E w m b ss i h e t r =
     let s : stepOf f w ≡ Took m = is-here f w i h ∙ e in
     record {
-      ends = subst⁻¹ E (run-step (λ v. v) (λ v n r. r) (fuel f) f w m (enough f w) s) (r .ends);
+      ends = subst⁻¹ E (run-step true (λ v. v) (λ v n r. r) (fuel f) f w m (enough f w) s) (r .ends);
       stretches =
-          run-step (λ v. []) stretchOf (fuel f) f w m (enough f w) s
+          run-step true (λ v. []) stretchOf (fuel f) f w m (enough f w) s
           ∙ ap (λ (b : Bool). stretchIf b w m (trace (fuel f) f m)) t
           ∙ ap (stretchIf b w m) (r .stretches);
     }
@@ -40,6 +40,6 @@ pub at-stop : (f : List ℕ) (w : Walk) (s : Step) → stays s → stepOf f w �
 at-stop f w s h e =
     let o : stays (stepOf f w) = subst⁻¹ stays e h in
     record {
-      ends = subst⁻¹ (Ends f (endingTold s) (w .at)) (run-stays (λ v. v) (λ v n r. r) (fuel f) f w o) (ap endingTold e, refl);
-      stretches = run-stays (λ v. []) stretchOf (fuel f) f w o;
+      ends = subst⁻¹ (Ends f (endingTold s) (w .at)) (run-stays true (λ v. v) (λ v n r. r) (fuel f) f w o) (ap endingTold e, refl);
+      stretches = run-stays true (λ v. []) stretchOf (fuel f) f w o;
     }

@@ -59,7 +59,7 @@ stop-before a f rest x w g i s r e refuses (follow v y ys) = absurd g
 stop-before a f rest x w g i s r e refuses (missing b q h) =
     let l = left-over f (w .at) q r in
     let m : w .at + sizeOf w - length f ≡ dueSize b - length q = omega arith in
-    stop-as f w (Open (w .at + sizeOf w - length f)) _ _ tt (is-short f w i (omega arith)) (ap (λ (n : ℕ). 1 ∷ n ∷ []) m) e
+    stop-as f w (Open (w .at + sizeOf w - length f)) _ _ tt (is-short true f w i (omega arith)) (ap (λ (n : ℕ). 1 ∷ n ∷ []) m) e
 stop-before a f rest x w g i s r e refuses (broken b q n p h k) =
     let l = left-over f (w .at) q r in
     stop-as f w (Refused n (w .at + p)) _ _ tt (refuses n p (omega arith) k) (ap (λ (m : ℕ). 2 ∷ n ∷ (m + p) ∷ []) e) e
@@ -68,9 +68,9 @@ stop-before a f rest x w g i s r e refuses (broken b q n p h k) =
 pub stop-behind : (v : Volume) (f : List ℕ) (rest x : List ℕ) (w : Walk) → isEnd (w .due) ≡ true → At f (w .at) rest → w .at ≡ length (bytesOfVolume v) → Says (volume v) rest x
     → Finishes f (Ends f x (length (bytesOfVolume v))) w []
 unfolding stays endingTold
-stop-behind v f rest x w i r e (complete u) = let l = left-over f (w .at) [] r in stop-as f w Complete _ _ tt (is-done f w i (omega arith)) refl e
+stop-behind v f rest x w i r e (complete u) = let l = left-over f (w .at) [] r in stop-as f w Complete _ _ tt (is-done true f w i (omega arith)) refl e
 stop-behind v f rest x w i r e (follow u y ys) =
     let l = left-over f (w .at) (y ∷ ys) r in
-    stop-as f w (Refused 25 (w .at)) _ _ tt (is-over f w i (omega arith)) (ap (λ (m : ℕ). 2 ∷ 25 ∷ m ∷ []) e) e
+    stop-as f w (Refused 25 (w .at)) _ _ tt (is-over true f w i (omega arith)) (ap (λ (m : ℕ). 2 ∷ 25 ∷ m ∷ []) e) e
 stop-behind v f rest x w i r e (missing b q h) = absurd (omega arith)
 stop-behind v f rest x w i r e (broken b q n p h k) = absurd (none-first n p k)

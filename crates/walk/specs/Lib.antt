@@ -1,2 +1,3 @@
 pub mod Due
 pub mod After
+pub mod Hope

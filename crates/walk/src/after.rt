@@ -155,7 +155,7 @@ pub fn moment(r: Moment, w: Walk, end: usize) -> Walk
 }
 
 // Whether the present radial closes its cut.
-fn closes_cut(w: Walk) -> bool
+pub(crate) fn closes_cut(w: Walk) -> bool
     ensures { λ r. ⌜ r ≡ closesCut w ⌝ }
 {
     w.present.state == states::closing(w.plan.scan_type, w.plan.cuts, w.count.cut)

@@ -20,8 +20,7 @@ use Rattle.walk.specs.Due.{sizeAt, isEnd, momentDue}
 use Rattle.walk.specs.After.{afterCut, afterData}
 use Rattle.reading.specs.Step.{takeGeneric, takeSite, takeTask, takeCut, takeRadial, takeMoment, takeData, blockAt, stepOf}
 use Rattle.reading.specs.Reading.{last, fuel, stop}
-use Rattle.reading.proofs.Run.{settle-took, took-inj, due-either, taken, stays, View, here, short, over, done, view, is-short, is-done, run-stays}
-use Rattle.reading.proofs.Counts.{settle-fine}
+use Rattle.reading.proofs.Run.{settle-took, settle-fine, took-inj, due-either, taken, stays, View, here, short, over, done, view, is-short, is-done, run-stays}
 use Rattle.reading.proofs.Loops.{last-step}
 use Rattle.reading.proofs.Growing.{through}
 
@@ -64,9 +63,9 @@ stays-after f w m e l = go (view f m)
   where
     go : View f m → stays (stepOf f m)
     go (here i h) = absurd (let s = some-on (w .due) _ w m (taken f w m e .block) i in omega arith)
-    go (short i h) = subst⁻¹ stays (is-short f m i h) tt
+    go (short i h) = subst⁻¹ stays (is-short true f m i h) tt
     go (over i h) = absurd (omega arith)
-    go (done i h) = subst⁻¹ stays (is-done f m i h) tt
+    go (done i h) = subst⁻¹ stays (is-done true f m i h) tt
 
 -- one block more, which ends where the bytes end: the reading stops after it
 pub stops-next : (A C : List ℕ) (w m : Walk) → stop A ≡ w → stepOf (A ++ C) w ≡ Took m → m .at ≡ length (A ++ C) → stop (A ++ C) ≡ m
@@ -74,4 +73,4 @@ stops-next A C w m s e l =
     through A C
     ∙ ap (last (fuel (A ++ C)) (A ++ C)) s
     ∙ last-step (A ++ C) w m e
-    ∙ run-stays (λ v. v) (λ v n r. r) (fuel (A ++ C)) (A ++ C) m (stays-after (A ++ C) w m e l)
+    ∙ run-stays true (λ v. v) (λ v n r. r) (fuel (A ++ C)) (A ++ C) m (stays-after (A ++ C) w m e l)

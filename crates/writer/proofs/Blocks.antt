@@ -36,15 +36,15 @@ module _ (A C : List ℕ) where
 
   from-step : (w m : Walk) → stepOf (A ++ C) w ≡ Took m → from w ≡ blockIn (w .due) (A ++ C) w ∷ from m
   unfolding from
-  from-step w m e = run-step (λ v. []) (λ v n r. blockIn (v .due) (A ++ C) v ∷ r) (fuel (A ++ C)) (A ++ C) w m (enough (A ++ C) w) e
+  from-step w m e = run-step true (λ v. []) (λ v n r. blockIn (v .due) (A ++ C) v ∷ r) (fuel (A ++ C)) (A ++ C) w m (enough (A ++ C) w) e
 
   -- the blocks of the longer file are those of A, and then those from where A's reading stops
   from-on : (k : ℕ) (w : Walk) → from w ≡ blocksFrom k A w ++ from (last k A w)
   from-on =
-      run-along (λ v. []) (λ v n r. blockIn (v .due) A v ∷ r) A (λ k w x. from w ≡ x ++ from (last k A w))
-      (λ k w h. ap from (sym (run-halts (λ v. v) (λ v n r. r) k A w h)))
+      run-along true (λ v. []) (λ v n r. blockIn (v .due) A v ∷ r) A (λ k w x. from w ≡ x ++ from (last k A w))
+      (λ k w h. ap from (sym (run-halts true (λ v. v) (λ v n r. r) k A w h)))
       (λ k w m x e r. from-step w m (keeps-took A C w m e)
-      ∙ ap₂ (λ (b : Block) (l : List Block). b ∷ l) (same-in w m e) (r ∙ ap (λ (v : Walk). x ++ from v) (sym (run-took (λ v. v) (λ v n r. r) k A w m e))))
+      ∙ ap₂ (λ (b : Block) (l : List Block). b ∷ l) (same-in w m e) (r ∙ ap (λ (v : Walk). x ++ from v) (sym (run-took true (λ v. v) (λ v n r. r) k A w m e))))
 
   -- one block more, which ends where the bytes end
   blocks-more : (w m : Walk) → stop A ≡ w → stepOf (A ++ C) w ≡ Took m → m .at ≡ length (A ++ C) → blocksIn (A ++ C) ≡ blocksIn A ++ blockIn (w .due) (A ++ C) w ∷ []
@@ -53,11 +53,11 @@ module _ (A C : List ℕ) where
       from-on (fuel A) atStart
       ∙ ap (λ (bs : List Block). blocksIn A ++ bs)
       (ap from s ∙ from-step w m e
-      ∙ ap (λ (bs : List Block). blockIn (w .due) (A ++ C) w ∷ bs) (run-stays (λ v. []) (λ v n r. blockIn (v .due) (A ++ C) v ∷ r) (fuel (A ++ C)) (A ++ C) m (stays-after (A ++ C) w m e l)))
+      ∙ ap (λ (bs : List Block). blockIn (w .due) (A ++ C) w ∷ bs) (run-stays true (λ v. []) (λ v n r. blockIn (v .due) (A ++ C) v ∷ r) (fuel (A ++ C)) (A ++ C) m (stays-after (A ++ C) w m e l)))
 
 pub same-blocks : {bs : List Block} {w : Walk} {room : List ℕ} → Run bs w room → SameBlocks bs w room
 unfolding run
-same-blocks (fresh room) = record { bytes = refl; blocks = run-stays (λ v. []) (λ v n r. blockIn (v .due) [] v ∷ r) (fuel []) [] atStart nothing-read }
+same-blocks (fresh room) = record { bytes = refl; blocks = run-stays true (λ v. []) (λ v n r. blockIn (v .due) [] v ∷ r) (fuel []) [] atStart nothing-read }
 same-blocks (more {bs} {w} {room} b fits r t) =
     let before = same-blocks r in
     let m = put b w room .walk in

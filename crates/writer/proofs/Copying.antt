@@ -47,7 +47,7 @@ module _ (f room : List ℕ) (bytes : Bytes f) where
   -- and so on to the walk at which a run stops, which goes on and never back
   copy-on : (k : ℕ) (w : Walk) → (w .at ≤ last k f w .at) × ((held : List ℕ) → Copied w held → last k f w .at ≤ length room → CopiedTo (last k f w))
   copy-on =
-      run-holds (λ v. v) (λ v n r. r) f (λ w v. (w .at ≤ v .at) × ((held : List ℕ) → Copied w held → v .at ≤ length room → CopiedTo v))
+      run-holds true (λ v. v) (λ v n r. r) f (λ w v. (w .at ≤ v .at) × ((held : List ℕ) → Copied w held → v .at ≤ length room → CopiedTo v))
       (λ w. (omega arith, λ held c h. record { held = held; is = c }))
       (λ w m v e r. let t = taken f w m e .end in let o = r .0 in (omega arith, λ held c h. r .1 _ (one-more w m held c e (omega arith)) h))
 

@@ -66,7 +66,7 @@ far-on due.Nothing p w m h e = absurd (let z : _≡_ {A = ℕ} 0 1 = cc in omega
 pub cut-behind : (f : List ℕ) (w : Walk) → stop f ≡ w → w .due ≡ due.Radial → cutPlace (w .count .cut) + 256 ≤ w .at
 unfolding Far
 cut-behind f w e d =
-    let h : Far (w .due) w = subst (λ (x : Walk). Far (x .due) x) e (last-holds f (λ x. Far (x .due) x) (λ v m q h. far-on (v .due) _ v m h (taken f v m q .block)) (fuel f) atStart tt) in
+    let h : Far (w .due) w = subst (λ (x : Walk). Far (x .due) x) e (last-holds true f (λ x. Far (x .due) x) (λ v m q h. far-on (v .due) _ v m h (taken f v m q .block)) (fuel f) atStart tt) in
     let b : Behind w = subst (λ (x : Due). Far x w) d h in
     let o = b .one in
     let c = b .cut in

@@ -21,11 +21,11 @@ use Rattle.writer.proofs.Agreeing.{keeps}
 -- no block is taken where there are no bytes
 pub nothing-read : stays (stepOf [] atStart)
 unfolding stays isEnd sizeAt
-nothing-read = subst⁻¹ stays (is-short [] atStart refl (omega arith)) tt
+nothing-read = subst⁻¹ stays (is-short true [] atStart refl (omega arith)) tt
 
 -- a fresh state agrees with every room
 pub start : (room : List ℕ) → Agrees atStart room
-start room = record { within = omega arith; stops = run-stays (λ v. v) (λ v n r. r) (fuel []) [] atStart nothing-read }
+start room = record { within = omega arith; stops = run-stays true (λ v. v) (λ v n r. r) (fuel []) [] atStart nothing-read }
 
 pub agrees-along : {bs : List Block} {w : Walk} {room : List ℕ} → Run bs w room → Agrees w room
 agrees-along (fresh room) = start room
@@ -49,10 +49,10 @@ unfolding endingTold
 ends-at f l = go (view f (stop f))
   where
     go : View f (stop f) → Ends f
-    go (here i h) = absurd (empty-goes (stop f .due) _ (stop f) i (omega arith) (subst stays (is-here f (stop f) i h) (last-off (fuel f) f atStart (enough f atStart))))
-    go (short i h) = isOpen _ (ap endingTold (is-short f (stop f) i h))
+    go (here i h) = absurd (empty-goes (stop f .due) _ (stop f) i (omega arith) (subst stays (is-here f (stop f) i h) (last-off true (fuel f) f atStart (enough f atStart))))
+    go (short i h) = isOpen _ (ap endingTold (is-short true f (stop f) i h))
     go (over i h) = absurd (omega arith)
-    go (done i h) = isComplete (ap endingTold (is-done f (stop f) i h))
+    go (done i h) = isComplete (ap endingTold (is-done true f (stop f) i h))
 
 pub read-back : (w : Walk) (room : List ℕ) → Agrees w room → ReadBack w room
 read-back w room a =

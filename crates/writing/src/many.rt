@@ -1,5 +1,5 @@
-// Volumes of many cuts, two radials in each, with their indexes in both forms; and the longest volume, 256 cuts of 256 radials, with
-// no room held (document 02, #106).
+// Volumes of many cuts, two radials in each, with their indexes in both forms; and, with no room held, the longest volumes: 256 cuts
+// of 256 radials (document 02, #106), and cuts of 1000, which leave few radials to the last ones (document 02, #110).
 use crate::records;
 use crate::records::Facts;
 use crate::telling::print_bytes;
@@ -195,22 +195,85 @@ fn print_walk(w: Walk) {
     newline();
 }
 
-fn try_radial(label: &[u8], w: Walk, number: u16, last: u16, sequence: u32) -> Walk {
+fn try_radial(label: &[u8], w: Walk, f: Facts) -> Walk {
     word(label);
     word(b":");
-    let v = take_radial(w, facts(256, 256, number, last, sequence));
+    let v = take_radial(w, f);
     print_walk(v);
     v
 }
 
-// The last of 65,536 radials closes the volume; where it does not, no further one is taken.
+// The last of 65,536 radials closes the volume; one that does not is refused, and so is a number behind the last.
 fn longest() {
     let w = behind_radials(behind_cuts(256), 65535);
     word(b"65535 radials:");
     print_walk(w);
-    try_radial(b"radial 65536, closing", w, 256, 256, 65536);
-    let v = try_radial(b"radial 65536", w, 256, 1000, 65536);
-    try_radial(b"12, radial 65537", v, 257, 257, 65537);
+    try_radial(
+        b"radial 65536, closing",
+        w,
+        facts(256, 256, 256, 256, 65536),
+    );
+    try_radial(b"40, radial 65536", w, facts(256, 256, 256, 1000, 65536));
+    try_radial(b"12, radial 65537", w, facts(256, 256, 257, 257, 65537));
+}
+
+// Behind so many radials of 68 cuts that have 1000 each, as far as they go.
+fn behind_long_cuts(w: Walk, radials: u16) -> Walk {
+    let mut v = w;
+    let mut n = 0;
+    while n < radials {
+        let cut = n / 1000 + 1;
+        let number = n % 1000 + 1;
+        n += 1;
+        v = take_radial(v, facts(68, cut, number, 1000, n as u32));
+    }
+    v
+}
+
+// The last that a cut can have closes it; one that does not is refused.
+fn long_cut(w: Walk) {
+    let v = behind_long_cuts(w, 999);
+    word(b"999 radials of a cut:");
+    print_walk(v);
+    try_radial(b"radial 1000, closing", v, facts(68, 1, 1000, 1000, 1000));
+    try_radial(b"40, radial 1000", v, facts(68, 1, 1000, 1001, 1000));
+}
+
+// Two radials must be left for each cut to come, and in a cut that is not closed one that closes it.
+fn crowded() {
+    let w = behind_cuts(68);
+    long_cut(w);
+    let mut v = behind_long_cuts(w, 65531);
+    word(b"65531 radials, in cut 66 of 68:");
+    print_walk(v);
+    try_radial(b"40, radial 65532", v, facts(68, 66, 532, 1000, 65532));
+    v = try_radial(
+        b"radial 65532, closing cut 66",
+        v,
+        facts(68, 66, 532, 532, 65532),
+    );
+    v = try_radial(
+        b"radial 65533, opening cut 67",
+        v,
+        facts(68, 67, 1, 2, 65533),
+    );
+    try_radial(b"40, radial 65534", v, facts(68, 67, 2, 3, 65534));
+    v = try_radial(
+        b"radial 65534, closing cut 67",
+        v,
+        facts(68, 67, 2, 2, 65534),
+    );
+    v = try_radial(
+        b"radial 65535, opening cut 68",
+        v,
+        facts(68, 68, 1, 2, 65535),
+    );
+    try_radial(b"40, radial 65536", v, facts(68, 68, 2, 3, 65536));
+    try_radial(
+        b"radial 65536, closing cut 68",
+        v,
+        facts(68, 68, 2, 2, 65536),
+    );
 }
 
 pub(crate) fn run() {
@@ -220,4 +283,5 @@ pub(crate) fn run() {
     many(255);
     many(256);
     longest();
+    crowded();
 }

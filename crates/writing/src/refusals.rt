@@ -10,6 +10,8 @@ use crate::volumes::put_front;
 use crate::volumes::put_pair;
 use crate::volumes::put_radial;
 use crate::volumes::put_start;
+use crate::volumes::put_task;
+use cut::Cut;
 use index::Answer;
 use printing::first;
 use printing::newline;
@@ -107,6 +109,82 @@ fn layers() {
     try_header(b"10, a layer opened by 0", w, &mut room, second);
 }
 
+fn try_cut(label: &[u8], w: Walk, room: &mut [u8], cut: Cut) {
+    let before = sum(room);
+    let p = writer::put_cut(w, room, cut);
+    print_put(label, w, before, p, room);
+}
+
+// A cut of no type, which no radial can be in (document 02, #110), in a room that ends before it.
+fn no_type() {
+    let mut room = [0xa5u8; 416];
+    let mut cut = records::cut();
+    cut.moments_mask = 0;
+    try_cut(
+        b"34 ahead of 40, a cut of no type before all else",
+        Walk::begin(),
+        &mut room,
+        cut,
+    );
+    let v = put_start(&mut room);
+    let w = put_task(v, &mut room, 0, 1);
+    try_cut(
+        b"40 ahead of 33, a cut of no type in a room of 416 bytes",
+        w,
+        &mut room,
+        cut,
+    );
+    cut.process_mode = 0;
+    try_cut(
+        b"9 ahead of 40, a cut of no type and process mode 0",
+        w,
+        &mut room,
+        cut,
+    );
+}
+
+// More moments than the cut has types, in a room that ends before the header.
+fn no_moments() {
+    let mut room = [0xa5u8; 672];
+    let w = put_front(&mut room, 0, 1);
+    let mut header = opening();
+    header.moment_number = 3;
+    header.length_of_data = 132;
+    try_header(
+        b"40 ahead of 33, three moments of two types",
+        w,
+        &mut room,
+        header,
+    );
+    header.spot_blank = 2;
+    try_header(
+        b"11 ahead of 40, three moments of two types and spot blank 2",
+        w,
+        &mut room,
+        header,
+    );
+}
+
+// Of twelve bytes for both types, five for the one-byte type leave seven for the two-byte one, which has an even number.
+fn odd_rest() {
+    let mut room = [0xa5u8; 736];
+    let v = put_front(&mut room, 0, 1);
+    let mut both = narrow(3, 1, 1, 1);
+    both.moments = 3;
+    let w = onward(writer::put_radial(v, &mut room, records::radial(both)));
+    let mut header = records::moment(2, 1);
+    header.length = 5;
+    let before = sum(&room);
+    let p = writer::put_moment(w, &mut room, header);
+    print_put(
+        b"40 ahead of 33, seven bytes for a two-byte type",
+        w,
+        before,
+        p,
+        &room,
+    );
+}
+
 fn short_data() {
     let mut room = [0xa5u8; 1000];
     let u = put_front(&mut room, 0, 1);
@@ -136,6 +214,9 @@ fn other_blocks() {
     try_radial(b"37, another number of cuts", other, &mut room);
     room[0] = 0;
     try_radial(b"37, another first byte", w, &mut room);
+    room[0] = 0x52;
+    room[500] = 0;
+    try_radial(b"37, a cut of no type", w, &mut room);
 }
 
 fn print_answer(answer: Answer) {
@@ -182,6 +263,9 @@ pub(crate) fn run() {
     another_kind();
     too_many_cuts();
     layers();
+    no_type();
+    no_moments();
+    odd_rest();
     short_data();
     short_room();
     other_ends();

@@ -11,7 +11,7 @@ pub(crate) fn put_start(room: &mut [u8]) -> Walk {
     onward(writer::put_site(w, room, records::site()))
 }
 
-fn put_task(w: Walk, room: &mut [u8], scan_type: u32, cuts: u32) -> Walk {
+pub(crate) fn put_task(w: Walk, room: &mut [u8], scan_type: u32, cuts: u32) -> Walk {
     onward(writer::put_task(w, room, records::task(scan_type, cuts)))
 }
 

@@ -8,13 +8,13 @@ use Rattle.walk.specs.declared.due.Walk.{Walk}
 use Rattle.reading.specs.declared.step.Step.the-variants.{Took}
 use Rattle.walk.specs.Due.{sizeAt}
 use Rattle.walk.specs.After.{afterData}
-use Rattle.reading.specs.Step.{blockAt, takeData}
+use Rattle.reading.specs.Step.{takeData, blockAt, hopeAt, hoping, sayBlock}
 use Rattle.reading.proofs.step.block.Statement.{statement}
 use Rattle.reading.proofs.step.block.Tie as tie
 
 -- what the due block says, by which block is due
-by-due : (p : List ℕ) (w : Walk) {d : Due} → w .due ≡ d → blockAt d p w ≡ blockAt (w .due) p w
-by-due p w e = sym (ap (λ (d : Due). blockAt d p w) e)
+by-due : (p : List ℕ) (w : Walk) {d : Due} → w .due ≡ d → sayBlock d p w ≡ sayBlock (w .due) p w
+by-due p w e = sym (ap (λ (d : Due). sayBlock d p w) e)
 
 generic-requires : tie.Need-generic-requires
 unfolding sizeAt
@@ -41,31 +41,31 @@ unfolding sizeAt
 moment-requires c κs = rw (c .enum-told6 .given .1) at (c .before .before .before .pre)
 
 returns : tie.Need-returns
-unfolding blockAt
+unfolding blockAt hopeAt hoping
 returns c = let a = c .before .before .before .before .args in c .generic .ensures ∙ by-due (a .p .now) (a .w) (c .before .enum-told .given .1)
 
 returns-2 : tie.Need-returns-2
-unfolding blockAt
+unfolding blockAt hopeAt hoping
 returns-2 c = let a = c .before .before .before .before .args in c .site .ensures ∙ by-due (a .p .now) (a .w) (c .before .enum-told2 .given .1)
 
 returns-3 : tie.Need-returns-3
-unfolding blockAt
+unfolding blockAt hopeAt hoping
 returns-3 c = let a = c .before .before .before .before .args in c .task .ensures ∙ by-due (a .p .now) (a .w) (c .before .enum-told3 .given .1)
 
 returns-4 : tie.Need-returns-4
-unfolding blockAt
+unfolding blockAt hopeAt hoping
 returns-4 c = let a = c .before .before .before .before .args in c .cut .ensures ∙ by-due (a .p .now) (a .w) (c .before .enum-told4 .given .1)
 
 returns-5 : tie.Need-returns-5
-unfolding blockAt
+unfolding blockAt hopeAt hoping
 returns-5 c = let a = c .before .before .before .before .args in c .radial .ensures ∙ by-due (a .p .now) (a .w) (c .before .enum-told5 .given .1)
 
 returns-6 : tie.Need-returns-6
-unfolding blockAt
+unfolding blockAt hopeAt hoping
 returns-6 c = let a = c .before .before .before .before .args in c .moment .ensures ∙ by-due (a .p .now) (a .w) (c .before .enum-told6 .given .1)
 
 returns-7 : tie.Need-returns-7
-unfolding blockAt takeData sizeAt
+unfolding blockAt hopeAt hoping takeData sizeAt
 returns-7 c =
     let s = c .before .before .before .before in
     let e = c .before .enum-told7 .given .1 in
@@ -73,7 +73,7 @@ returns-7 c =
     ap Took (c .«data» .ensures ∙ ap (afterData (s .args .w)) l) ∙ by-due (s .args .p .now) (s .args .w) e
 
 returns-8 : tie.Need-returns-8
-unfolding blockAt
+unfolding blockAt hopeAt hoping
 returns-8 c = let a = c .before .before .before .args in by-due (a .p .now) (a .w) (c .enum-told8 .given .1)
 
 pub block-spec : {M : Type 1} → statement M

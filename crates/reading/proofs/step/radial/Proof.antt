@@ -6,18 +6,20 @@ use Rattle.reading.proofs.step.radial.Tie as tie
 
 returns : tie.Need-returns
 returns c =
-    let s = c .before .before .before .before .before .before .before .before .before in
+    let s = c .before .before .before .before .before .before .before .before .before .before .before in
     let p = s .args .p .now in
     let w = s .args .w in
     rw (
-      c .settle .ensures,
-      c .before .radial .ensures,
-      c .before .before .check .ensures,
-      c .before .before .before .radial-due .ensures,
-      c .before .before .before .before .u64-at2 .ensures,
-      c .before .before .before .before .before .u64-at .ensures,
-      c .before .before .before .before .before .before .cut-place .ensures,
-      c .before .before .before .before .before .before .before .read .ensures,
+      c .hoping .ensures,
+      c .before .radial2 .ensures,
+      c .before .before .settle .ensures,
+      c .before .before .before .check .ensures,
+      c .before .before .before .before .radial-due .ensures,
+      c .before .before .before .before .before .radial .ensures,
+      c .before .before .before .before .before .before .u64-at2 .ensures,
+      c .before .before .before .before .before .before .before .u64-at .ensures,
+      c .before .before .before .before .before .before .before .before .cut-place .ensures,
+      c .before .before .before .before .before .before .before .before .before .read .ensures,
       s .pre,
     )
     (by-masks p w (radialAt p (w .at)))
@@ -25,4 +27,4 @@ returns c =
 pub radial-spec : {M : Type 1} → statement M
 radial-spec =
     tie.close
-    (tie.spec (λ c κs. search needs) (λ c κs. search needs) (λ c. search needs) (λ c κs. search needs) (λ c. search needs) (λ c κs. search needs) (λ c κs. search needs) (λ c κs. search needs) (λ c κs. search needs) (λ c κs. search needs) returns)
+    (tie.spec (λ c κs. search needs) (λ c κs. search needs) (λ c. search needs) (λ c κs. search needs) (λ c. search needs) (λ c κs. search needs) (λ c κs. search needs) (λ c κs. search needs) (λ c κs. search needs) (λ c κs. search needs) (λ c κs. search needs) (λ c κs. search needs) returns)

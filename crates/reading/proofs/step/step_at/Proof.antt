@@ -1,30 +1,33 @@
+use mathlib.Core.Bool.{true}
 use mathlib.Core.Path.{ap, sym, _∙_}
 use Prim.Native.Nat.{ℕ, _+_}
 use borrow.Author.Needs.{needs}
-use borrow.Author.Tests.{lt-ltb, le-ltb, le-leb, lt-leb}
 use native.Mathlib.Omega.{arith}
-use lib.ListN.{length}
+use lib.ListN.{take}
 use lib.Seq.{length-take-le}
 use Rattle.reading.specs.declared.step.Step.the-variants.{Open}
-use Rattle.reading.specs.Step.{pick, stepOf}
+use Rattle.reading.specs.Step.{sayBlock}
+use Rattle.reading.proofs.Run.{is-here, is-short, is-over, is-done}
 use Rattle.reading.proofs.step.step_at.Statement.{statement}
 use Rattle.reading.proofs.step.step_at.Tie as tie
 
 returns : tie.Need-returns
-unfolding stepOf pick
-returns c = rw (← c .before .before .is-end .ensures, c .before .if1 .taken, lt-ltb _ _ (c .if2 .taken))
+returns c =
+    let a = c .before .before .before .before .args in
+    sym (is-over true (a .file .now) (a .w) (sym (c .before .before .is-end .ensures) ∙ c .before .if1 .taken) (c .if2 .taken))
 
 returns-2 : tie.Need-returns-2
-unfolding stepOf pick
-returns-2 c = rw (← c .before .before .is-end .ensures, c .before .if1 .taken, le-ltb _ _ (c .if2 .left))
+returns-2 c =
+    let a = c .before .before .before .before .args in
+    sym (is-done true (a .file .now) (a .w) (sym (c .before .before .is-end .ensures) ∙ c .before .if1 .taken) (omega (arith, c .if2 .left)))
 
 returns-3 : tie.Need-returns-3
-unfolding stepOf pick
 returns-3 c =
     let s = c .before .before .before .before .before in
-    let n = s .args .w .at + c .before .size-at .result in
-    rw (← c .before .before .before .is-end .ensures, c .before .before .if1 .left, ← c .before .size-at .ensures, lt-leb n (length (s .args .file .now)) (omega arith))
-    (ap Open (omega arith))
+    let f = s .args .file .now in
+    let w = s .args .w in
+    let z = c .before .size-at .ensures in
+    ap Open (omega arith) ∙ sym (is-short true f w (sym (c .before .before .before .is-end .ensures) ∙ c .before .before .if1 .left) (omega arith))
 
 part : tie.Need-slice-aggregate-block
 part c =
@@ -38,12 +41,14 @@ block-requires c κs =
     ∙ ap (λ (k : ℕ). s .args .w .at + k) (c .before .before .size-at .ensures)
 
 returns-4 : tie.Need-returns-4
-unfolding stepOf pick
 returns-4 c =
     let s = c .before .before .before .before .before .before .before in
-    let n = s .args .w .at + c .before .before .before .size-at .result in
-    rw (← c .before .before .before .before .before .is-end .ensures, c .before .before .before .before .if1 .left, ← c .before .before .before .size-at .ensures, le-leb n (length (s .args .file .now)) (omega arith))
-    (c .block .ensures)
+    let f = s .args .file .now in
+    let w = s .args .w in
+    let z = c .before .before .before .size-at .ensures in
+    c .block .ensures
+    ∙ ap (λ (n : ℕ). sayBlock (w .due) (take (w .at + n) f) w) z
+    ∙ sym (is-here f w (sym (c .before .before .before .before .before .is-end .ensures) ∙ c .before .before .before .before .if1 .left) (omega arith))
 
 pub step-at-spec : {M : Type 1} → statement M
 step-at-spec =

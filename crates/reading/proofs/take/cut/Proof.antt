@@ -10,7 +10,7 @@ returns c = past-room _ _ (omega arith)
 
 returns-2 : tie.Need-returns-2
 unfolding takeCut
-returns-2 c = rw (c .settle .ensures, c .before .cut .ensures, c .before .before .check .ensures) (fits-room _ _ (omega arith))
+returns-2 c = rw (c .hoping .ensures, c .before .some-moment .ensures, c .before .before .settle .ensures, c .before .before .before .cut .ensures, c .before .before .before .before .check .ensures) (fits-room _ _ (omega arith))
 
 pub cut-spec : {M : Type 1} → statement M
-cut-spec = tie.close (tie.spec returns (λ c κs. search needs) (λ c. search needs) (λ c κs. search needs) (λ c κs. search needs) returns-2)
+cut-spec = tie.close (tie.spec returns (λ c κs. search needs) (λ c. search needs) (λ c κs. search needs) (λ c κs. search needs) (λ c κs. search needs) (λ c κs. search needs) returns-2)

@@ -8,7 +8,7 @@ returns : tie.Need-returns
 returns c = past-room _ _ (omega arith)
 
 returns-2 : tie.Need-returns-2
-returns-2 c = rw (c .settle .ensures, c .before .radial .ensures, c .before .before .check .ensures, c .before .before .before .radial-due .ensures) (fits-room _ _ (omega arith))
+returns-2 c = rw (c .hoping .ensures, c .before .radial2 .ensures, c .before .before .settle .ensures, c .before .before .before .check .ensures, c .before .before .before .before .radial-due .ensures, c .before .before .before .before .before .radial .ensures) (fits-room _ _ (omega arith))
 
 pub radial-spec : {M : Type 1} → statement M
-radial-spec = tie.close (tie.spec returns (λ c κs. search needs) (λ c κs. search needs) (λ c. search needs) (λ c κs. search needs) (λ c κs. search needs) returns-2)
+radial-spec = tie.close (tie.spec returns (λ c. search needs) (λ c κs. search needs) (λ c κs. search needs) (λ c κs. search needs) (λ c κs. search needs) (λ c κs. search needs) (λ c κs. search needs) returns-2)

@@ -4,7 +4,7 @@ use borrow.Author.Needs.{needs}
 use Rattle.walk.specs.declared.due.Due.the-variants as due
 use Rattle.walk.specs.Due.{sizeAt, isEnd}
 use Rattle.reading.specs.declared.step.Step.the-variants.{Took, Open}
-use Rattle.reading.specs.Step.{blockAt, takeData}
+use Rattle.reading.specs.Step.{blockAt, takeData, hopeAt, hoping}
 use Rattle.reading.proofs.Known.{known-here, known-short}
 use Rattle.reading.proofs.whole.data_step.Statement.{statement}
 use Rattle.reading.proofs.whole.data_step.Tie as tie
@@ -16,7 +16,7 @@ returns c =
     ap Open (omega arith) ∙ sym (known-short (s .args .file .now) (s .args .w) due.Data (s .pre .1) refl (omega arith))
 
 returns-2 : tie.Need-returns-2
-unfolding sizeAt isEnd blockAt takeData
+unfolding sizeAt isEnd blockAt takeData hopeAt hoping
 returns-2 c =
     let s = c .before .before .before in
     ap Took (c .«data» .ensures) ∙ sym (known-here (s .args .file .now) (s .args .w) due.Data (s .pre .1) refl (omega arith))

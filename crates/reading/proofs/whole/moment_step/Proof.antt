@@ -6,7 +6,7 @@ use lib.Seq.{length-take-le}
 use Rattle.walk.specs.declared.due.Due.the-variants as due
 use Rattle.walk.specs.Due.{sizeAt, isEnd}
 use Rattle.reading.specs.declared.step.Step.the-variants.{Open}
-use Rattle.reading.specs.Step.{blockAt, takeMoment}
+use Rattle.reading.specs.Step.{blockAt, takeMoment, hopeAt, hopeAfterMoment}
 use Rattle.reading.proofs.Known.{known-here, known-short}
 use Rattle.reading.proofs.whole.moment_step.Statement.{statement}
 use Rattle.reading.proofs.whole.moment_step.Tie as tie
@@ -23,14 +23,22 @@ slice-aggregate-read c =
     sym (length-take-le (s .args .w .at + 32) (s .args .file .now) (omega arith))
 
 returns-2 : tie.Need-returns-2
-unfolding sizeAt isEnd blockAt takeMoment
+unfolding sizeAt isEnd blockAt takeMoment hopeAt hopeAfterMoment
 returns-2 c =
-    let s = c .before .before .before .before .before .before .before .before in
-    rw (c .settle .ensures, c .before .moment .ensures, c .before .before .check .ensures, c .before .before .before .moment-due .ensures, c .before .before .before .before .read .ensures)
+    let s = c .before .before .before .before .before .before .before .before .before .before in
+    rw (
+      c .hoping .ensures,
+      c .before .moments .ensures,
+      c .before .before .settle .ensures,
+      c .before .before .before .check .ensures,
+      c .before .before .before .before .moment-due .ensures,
+      c .before .before .before .before .before .moment .ensures,
+      c .before .before .before .before .before .before .read .ensures,
+    )
     (sym (known-here (s .args .file .now) (s .args .w) due.Moment (s .pre .1) refl (omega arith)))
 
 pub moment-step-spec : {M : Type 1} → statement M
 moment-step-spec =
     tie.close
     (tie.spec (λ c. search needs) (λ c. search needs) returns (λ c. search needs) slice-aggregate-read (λ c κs. search needs) (λ c κs. search needs) (λ c κs. search needs)
-    (λ c κs. search needs) (λ c κs. search needs) returns-2)
+    (λ c κs. search needs) (λ c κs. search needs) (λ c κs. search needs) (λ c κs. search needs) returns-2)

@@ -8,7 +8,7 @@ use Rattle.radial.specs.Radial.{radialAt}
 use Rattle.walk.specs.declared.due.Due.the-variants as due
 use Rattle.walk.specs.Due.{sizeAt, isEnd}
 use Rattle.reading.specs.declared.step.Step.the-variants.{Open}
-use Rattle.reading.specs.Step.{blockAt}
+use Rattle.reading.specs.Step.{blockAt, hopeAt}
 use Rattle.reading.proofs.Masks.{by-masks}
 use Rattle.reading.proofs.Known.{known-here, known-short}
 use Rattle.reading.proofs.whole.radial_step.Statement.{statement}
@@ -31,27 +31,28 @@ settle-requires c κs =
     omega (arith, s .pre .0, s .good)
 
 returns-2 : tie.Need-returns-2
-unfolding sizeAt isEnd blockAt
+unfolding sizeAt isEnd blockAt hopeAt
 returns-2 c =
-    let s = c .before .before .before .before .before .before .before .before .before .before .before in
+    let s = c .before .before .before .before .before .before .before .before .before .before .before .before .before in
     let f = s .args .file .now in
     let w = s .args .w in
     let p = take (w .at + 64) f in
     rw (
-      c .settle .ensures,
-      c .before .radial .ensures,
-      c .before .before .check .ensures,
-      c .before .before .before .radial-due .ensures,
-      c .before .before .before .before .u64-at2 .ensures,
-      c .before .before .before .before .before .u64-at .ensures,
-      c .before .before .before .before .before .before .cut-place .ensures,
-      c .before .before .before .before .before .before .before .read .ensures,
+      c .hoping .ensures,
+      c .before .radial2 .ensures,
+      c .before .before .settle .ensures,
+      c .before .before .before .check .ensures,
+      c .before .before .before .before .radial-due .ensures,
+      c .before .before .before .before .before .radial .ensures,
+      c .before .before .before .before .before .before .u64-at2 .ensures,
+      c .before .before .before .before .before .before .before .u64-at .ensures,
+      c .before .before .before .before .before .before .before .before .cut-place .ensures,
+      c .before .before .before .before .before .before .before .before .before .read .ensures,
     )
-    (by-masks p w (radialAt p (w .at))
-    ∙ sym (known-here f w due.Radial (s .pre .1) refl (omega (arith, s .pre .0, c .before .before .before .before .before .before .before .before .before .if1 .left))))
+    (by-masks p w (radialAt p (w .at)) ∙ sym (known-here f w due.Radial (s .pre .1) refl (omega (arith, s .pre .0, c .before .before .before .before .before .before .before .before .before .before .before .if1 .left))))
 
 pub radial-step-spec : {M : Type 1} → statement M
 radial-step-spec =
     tie.close
     (tie.spec (λ c. search needs) (λ c. search needs) returns (λ c. search needs) slice-aggregate-p (λ c κs. search needs) (λ c κs. search needs) (λ c. search needs) (λ c κs. search needs)
-    (λ c. search needs) (λ c κs. search needs) (λ c κs. search needs) (λ c κs. search needs) (λ c κs. search needs) settle-requires returns-2)
+    (λ c. search needs) (λ c κs. search needs) (λ c κs. search needs) (λ c κs. search needs) (λ c κs. search needs) settle-requires (λ c κs. search needs) (λ c κs. search needs) returns-2)
