@@ -27,7 +27,7 @@ use Rattle.task.proofs.Trips as task-trip
 use Rattle.cut.proofs.Trips as cut-trip
 use Rattle.radial.proofs.Trips as radial-trip
 use Rattle.moment.proofs.Trips as moment-trip
-use Rattle.reading.specs.Reading.{told}
+use Rattle.reading.specs.Reading.{plainTold}
 use Rattle.volume.specs.Volume.{bytesOfVolume}
 use Rattle.volume.specs.Accepted.{Accepted, nothing, generic, site, task, radials, radial, moment, volume, bytesOfAccepted, dueRadial, dueMoment, AcceptedOk, dueSize, dueRules, Says, complete, follow, missing, broken}
 use Rattle.volume.specs.Meaning.{Holds, Told, Accepts}
@@ -96,7 +96,7 @@ pub accepts : (f : List ℕ) → Bytes f → Accepts f
 accepts f bs = parsed (suc (length f + length f)) f nothing tt f bs refl (omega arith)
 
 -- a complete file is a volume's bytes
-pub holds : (f : List ℕ) → Bytes f → told f ≡ 0 ∷ [] → Holds f
+pub holds : (f : List ℕ) → Bytes f → plainTold f ≡ 0 ∷ [] → Holds f
 holds f bs c = let a = accepts f bs in go (a .accepted) (a .rest) (a .verdict) (a .is) (a .bytes) (a .says) (sym (a .told .verdict) ∙ c)
   where
     go : (a : Accepted) (rest x : List ℕ) → AcceptedOk a → bytesOfAccepted a ++ rest ≡ f → Says a rest x → x ≡ 0 ∷ [] → Holds f

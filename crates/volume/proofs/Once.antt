@@ -22,7 +22,7 @@ use Rattle.generic.proofs.Trips as generic-trip
 use Rattle.site.proofs.Trips as site-trip
 use Rattle.task.proofs.Trips as task-trip
 use Rattle.cut.proofs.Trips as cut-trip
-use Rattle.reading.specs.Reading.{stop}
+use Rattle.reading.specs.Reading.{plainStop}
 use Rattle.volume.specs.Volume.{VolumeRadial, Volume, IsVolume, bytesOfRadial, bytesOfVolume, GenericOk, SiteOk, TaskOk, CutsOk, LayersOk}
 use Rattle.volume.specs.Accepted.{Begun, Accepted, nothing, generic, site, task, radials, radial, moment, volume, volumeOf, bytesOfAccepted, radialsIn, UnclosedOk, BegunOk, RadialBegun, AcceptedOk, Says}
 use Rattle.le.proofs.Laws.{run-end}
@@ -278,5 +278,5 @@ pub one : (a b : Accepted) (rest q x y : List ℕ) → AcceptedOk a → Accepted
 one a b rest q x y ok ko says said e =
     let l = tells a rest x ok says .read in
     let k = tells b q y ko said .read in
-    let s = split (bytesOfAccepted a) (bytesOfAccepted b) rest q (sym l ∙ ap (λ (f : List ℕ). stop f .at) e ∙ k) e in
+    let s = split (bytesOfAccepted a) (bytesOfAccepted b) rest q (sym l ∙ ap (λ (f : List ℕ). plainStop f .at) e ∙ k) e in
     (same-accepted a b ok ko (s .0), s .1)

@@ -30,7 +30,7 @@ use Rattle.moment.specs.Moment.{momentAt, momentBytes, momentCheck, momentRules
 use Rattle.moment.proofs.Trips as moment-trip
 use Rattle.walk.specs.Due.{cutPlace}
 use Rattle.reading.specs.declared.Stretch.{Stretch}
-use Rattle.reading.specs.Reading.{stretches}
+use Rattle.reading.specs.Reading.{plainStretches}
 use Rattle.reading.specs.Tiling.{dueWith, Tiled, none, WholeRadial}
 use Rattle.reading.proofs.Radials.{said, tile-more}
 use Rattle.volume.specs.Volume.{VolumeMoment, VolumeRadial, Volume, IsVolume, Headed, bytesOfMoment, bytesOfRadial, bytesOfVolume, tiled, typesOf, judgedRadial, MomentsOk, RadialOk, LayerOk, LayersOk, CutsOk}
@@ -215,7 +215,7 @@ module _ (f : List ℕ) where
       unclosed b ok k more t c n m z = rw (t, c, z) (subst (λ (i : ℕ). UnclosedOk (b .task) (b .cut) k i 0 (b .now)) m (subst (λ (i : ℕ). UnclosedOk (b .task) (b .cut) i (radialsIn (b .closed)) 0 (b .now)) n (ok .now)))
 
   -- every whole radial of a file is in its own place
-  pub in-place : Bytes f → AllInPlace f [] (stretches f)
+  pub in-place : Bytes f → AllInPlace f [] (plainStretches f)
   in-place bs = go (accepts f bs)
     where
       by : (a : Accepted) (rest : List ℕ) → AcceptedOk a → bytesOfAccepted a ++ rest ≡ f → AllInPlace f [] (acceptedStretches a)
@@ -228,5 +228,5 @@ module _ (f : List ℕ) where
       by (moment b r m) rest ok e = of-begun b ((bytesOfRadial r ++ momentBytes m) ++ rest) (ok .0) (apart-end (bytesOfVolume (volumeOf b)) (bytesOfRadial r) (momentBytes m) rest ∙ e)
       by (volume v) rest ok e = of-volume v rest ok e
 
-      go : Accepts f → AllInPlace f [] (stretches f)
+      go : Accepts f → AllInPlace f [] (plainStretches f)
       go x = subst (AllInPlace f []) (sym (x .told .radials)) (by (x .accepted) (x .rest) (x .is) (x .bytes))

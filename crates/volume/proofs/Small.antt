@@ -29,7 +29,7 @@ use Rattle.moment.specs.declared.Moment.{Moment}
 use Rattle.moment.specs.Moment.{momentBytes, momentRules, MomentFits}
 use Rattle.volume.specs.Volume.{VolumeRadial, Volume, IsVolume, RadialOk, judged, judgedRadial, bytesOfVolume}
 use Rattle.volume.proofs.Meaning.{reads}
-use Rattle.reading.specs.Reading.{told, stretches}
+use Rattle.reading.specs.Reading.{plainTold, plainStretches}
 
 unfoldable pub small-generic : Generic
 small-generic =
@@ -191,13 +191,13 @@ pub small-length : length (bytesOfVolume small) ≡ 872
 unfolding small small-generic small-site small-task small-cut small-whole small-radial small-moment genericBytes siteBytes taskBytes cutBytes radialBytes momentBytes run bytes part
 small-length = refl
 
-pub small-told : told (bytesOfVolume small) ≡ 0 ∷ []
+pub small-told : plainTold (bytesOfVolume small) ≡ 0 ∷ []
 small-told = reads small small-is .complete
 
-pub small-radials : stretches (bytesOfVolume small) ≡ record { start = 672; end = 772; cut = 1 } ∷ record { start = 772; end = 872; cut = 1 } ∷ []
+pub small-radials : plainStretches (bytesOfVolume small) ≡ record { start = 672; end = 772; cut = 1 } ∷ record { start = 772; end = 872; cut = 1 } ∷ []
 unfolding small small-whole small-radial small-moment radialBytes momentBytes run bytes part
 small-radials = reads small small-is .radials
 
 -- the two cuts' radials, each judged by its own cut
-pub two-told : told (bytesOfVolume two) ≡ 0 ∷ []
+pub two-told : plainTold (bytesOfVolume two) ≡ 0 ∷ []
 two-told = reads two two-is .complete

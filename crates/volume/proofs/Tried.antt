@@ -14,7 +14,7 @@ use Rattle.moment.specs.Moment.{momentBytes}
 use Rattle.radial.specs.Radial.{radialBytes}
 use Rattle.site.specs.Site.{siteBytes}
 use Rattle.task.specs.Task.{taskBytes, taskOf, taskAt, taskRules}
-use Rattle.reading.specs.Reading.{told, stop, stretches}
+use Rattle.reading.specs.Reading.{plainTold, plainStop, plainStretches}
 use Rattle.volume.specs.Volume.{bytesOfVolume}
 use Rattle.volume.specs.Accepted.{Accepted, nothing, site, moment, volume, AcceptedOk, bytesOfAccepted, missing, follow, broken}
 use Rattle.volume.specs.Meaning.{Told}
@@ -22,11 +22,11 @@ use Rattle.volume.proofs.Tells.{tells}
 use Rattle.volume.proofs.Small.{small-generic, small-site, small-task, small-cut, small-radial, small-moment, small-whole, small, small-is, small-length}
 
 -- fewer bytes than a generic header, whatever they are (a wrong magic too): open, by those that are missing
-pub short-told : (f : List ℕ) → length f < 32 → told f ≡ 1 ∷ (32 - length f) ∷ []
+pub short-told : (f : List ℕ) → length f < 32 → plainTold f ≡ 1 ∷ (32 - length f) ∷ []
 short-told f h = tells nothing f _ tt (missing nothing f h) .verdict
 
 -- bytes behind the small volume: refused 25 where it ended
-pub behind-told : (x : ℕ) (xs : List ℕ) → told (bytesOfVolume small ++ (x ∷ xs)) ≡ 2 ∷ 25 ∷ 872 ∷ []
+pub behind-told : (x : ℕ) (xs : List ℕ) → plainTold (bytesOfVolume small ++ (x ∷ xs)) ≡ 2 ∷ 25 ∷ 872 ∷ []
 behind-told x xs = tells (volume small) (x ∷ xs) _ small-is (follow small x xs) .verdict ∙ ap (λ (n : ℕ). 2 ∷ 25 ∷ n ∷ []) small-length
 
 -- the small volume up to the data of its second radial
@@ -76,13 +76,13 @@ unfolding last-due small-moment
 first-told = subst (λ (f : List ℕ). Told f last-due (1 ∷ 1 ∷ [])) first-bytes (tells last-due (0 ∷ 1 ∷ 66 ∷ []) (1 ∷ 1 ∷ []) last-is (missing last-due (0 ∷ 1 ∷ 66 ∷ []) (omega arith)))
 
 -- they are open, 1 missing, 868 read, 1 whole radial
-pub first-open : told (take 871 (bytesOfVolume small)) ≡ 1 ∷ 1 ∷ []
+pub first-open : plainTold (take 871 (bytesOfVolume small)) ≡ 1 ∷ 1 ∷ []
 first-open = first-told .verdict
 
-pub first-read : stop (take 871 (bytesOfVolume small)) .at ≡ 868
+pub first-read : plainStop (take 871 (bytesOfVolume small)) .at ≡ 868
 first-read = first-told .read ∙ last-length
 
-pub first-radials : stretches (take 871 (bytesOfVolume small)) ≡ record { start = 672; end = 772; cut = 1 } ∷ []
+pub first-radials : plainStretches (take 871 (bytesOfVolume small)) ≡ record { start = 672; end = 772; cut = 1 } ∷ []
 unfolding last-due small-whole small-radial small-moment radialBytes momentBytes run bytes part
 first-radials = first-told .radials
 
@@ -91,7 +91,7 @@ first-broken : First (taskRules (taskAt (taskBytes (small-task 257)) 0)) 8 176
 unfolding small-task taskAt taskOf taskBytes run le bytes part among notBelowZero cutNumberOk mostCuts
 first-broken = behind _ _ refl (behind _ _ refl (behind _ _ refl (here _ _ refl)))
 
-pub cuts-refused : told (genericBytes small-generic ++ siteBytes small-site ++ taskBytes (small-task 257)) ≡ 2 ∷ 8 ∷ 336 ∷ []
+pub cuts-refused : plainTold (genericBytes small-generic ++ siteBytes small-site ++ taskBytes (small-task 257)) ≡ 2 ∷ 8 ∷ 336 ∷ []
 unfolding small small-generic small-site small-task genericBytes siteBytes taskBytes run bytes part
 cuts-refused =
     tells (site small-generic small-site) (taskBytes (small-task 257)) (2 ∷ 8 ∷ 336 ∷ []) (small-is .headed .generic, small-is .headed .site)

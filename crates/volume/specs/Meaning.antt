@@ -6,7 +6,7 @@ use lib.ListN.{length}
 use Rattle.le.specs.Le.{Bytes}
 use Rattle.cut.specs.Cut.{cutSize}
 use Rattle.reading.specs.declared.Stretch.{Stretch}
-use Rattle.reading.specs.Reading.{told, stop, stretches}
+use Rattle.reading.specs.Reading.{plainTold, plainStop, plainStretches}
 use Rattle.generic.specs.Generic.{genericSize}
 use Rattle.site.specs.Site.{siteSize}
 use Rattle.task.specs.Task.{taskSize}
@@ -38,8 +38,8 @@ volumeStretches v = layersStretches 1 (firstPlace v) (v .layers)
 
 -- a volume's bytes are complete, and its radials are the whole ones
 pub record Reads (v : Volume) : Type 0 where
-  pub complete : told (bytesOfVolume v) ≡ 0 ∷ []
-  pub radials : stretches (bytesOfVolume v) ≡ volumeStretches v
+  pub complete : plainTold (bytesOfVolume v) ≡ 0 ∷ []
+  pub radials : plainStretches (bytesOfVolume v) ≡ volumeStretches v
 
 -- a file is a volume's bytes
 pub record Holds (f : List ℕ) : Type 0 where
@@ -60,9 +60,9 @@ acceptedStretches (volume v) = volumeStretches v
 
 -- of a file with these accepted blocks x is told, and they are what is read of it, their radials the whole ones
 pub record Told (f : List ℕ) (a : Accepted) (x : List ℕ) : Type 0 where
-  pub verdict : told f ≡ x
-  pub read : stop f .at ≡ length (bytesOfAccepted a)
-  pub radials : stretches f ≡ acceptedStretches a
+  pub verdict : plainTold f ≡ x
+  pub read : plainStop f .at ≡ length (bytesOfAccepted a)
+  pub radials : plainStretches f ≡ acceptedStretches a
 
 -- a file's accepted blocks are a volume's beginning, and what is told of it is what they and the bytes behind them say
 pub record Accepts (f : List ℕ) : Type 0 where
@@ -78,7 +78,7 @@ pub record Accepts (f : List ℕ) : Type 0 where
 -- accepted blocks and the bytes behind them say is told of their file; any file is such blocks and bytes, and only one way.
 pub record Means : Type 0 where
   pub reads : (v : Volume) → IsVolume v → Reads v
-  pub holds : (f : List ℕ) → Bytes f → told f ≡ 0 ∷ [] → Holds f
+  pub holds : (f : List ℕ) → Bytes f → plainTold f ≡ 0 ∷ [] → Holds f
   pub once : (v u : Volume) → IsVolume v → IsVolume u → bytesOfVolume v ≡ bytesOfVolume u → v ≡ u
   pub tells : (a : Accepted) (rest x : List ℕ) → AcceptedOk a → Says a rest x → Told (bytesOfAccepted a ++ rest) a x
   pub accepts : (f : List ℕ) → Bytes f → Accepts f

@@ -14,7 +14,7 @@ use Rattle.walk.specs.declared.due.Walk.{Walk}
 use Rattle.reading.specs.declared.step.Step.the-variants as step
 use Rattle.walk.specs.Due.{sizeAt, sizeOf, cutPlace}
 use Rattle.reading.specs.Reading.{stop}
-use Rattle.reading.specs.Step.{blockAt, stepOf}
+use Rattle.reading.specs.Step.{sayBlock, stepOf}
 use Rattle.reading.proofs.Run.{is-here, taken}
 use Rattle.writer.specs.Agree.{written, Agrees}
 use Rattle.writer.specs.Block.{Block, saysOf, lengthOf, bytesOf}
@@ -47,7 +47,8 @@ module _ (f : List ℕ) (w m : Walk) (room : List ℕ) (from : FromFile f w m ro
       let p = take (w .at + sizeOf w) f in
       ap (λ (x : Block). saysOf x room w) (sym (block-front (w .due) f w))
       ∙ sym (says-in (w .due) p room w (t .going) cut-same)
-      ∙ t .block
+      ∙ sym (is-here f w (t .going) (t .room))
+      ∙ from .reads
 
   size : lengthOf block ≡ sizeOf w
   unfolding block
@@ -84,8 +85,9 @@ module _ (f : List ℕ) (w m : Walk) (room : List ℕ) (from : FromFile f w m ro
       let l = length-take-le (w .at + sizeOf w) f (t .room) in
       ap (λ (x : List ℕ). stepOf x w) front
       ∙ is-here p w (t .going) (omega arith)
-      ∙ ap (λ (x : List ℕ). blockAt (w .due) x w) (take-take (w .at + sizeOf w) (w .at + sizeOf w) f (omega arith))
-      ∙ t .block
+      ∙ ap (λ (x : List ℕ). sayBlock (w .due) x w) (take-take (w .at + sizeOf w) (w .at + sizeOf w) f (omega arith))
+      ∙ sym (is-here f w (t .going) (t .room))
+      ∙ from .reads
 
   adds : written m (patch room (w .at) (bytesOf block)) ≡ take (w .at + sizeOf w) f
   unfolding block

@@ -15,7 +15,7 @@ use Rattle.reading.specs.declared.step.Step.{Step}
 use Rattle.reading.specs.declared.step.Step.the-variants as step
 use Rattle.walk.specs.Due.{sizeAt, sizeOf, isEnd}
 use Rattle.reading.specs.Reading.{stop}
-use Rattle.reading.specs.Step.{blockAt, stepOf}
+use Rattle.reading.specs.Step.{sayBlock, stepOf}
 use Rattle.reading.proofs.Run.{Plain, took, refused, is-here, taken}
 use Rattle.writer.specs.declared.order.Answer.{Answer}
 use Rattle.writer.specs.declared.order.Answer.the-variants.{Taken, Refused}
@@ -92,8 +92,8 @@ module _ (b : Block) (fits : Fits b) (w : Walk) (room : List ℕ) where
       let size : lengthOf b ≡ sizeOf w = size-is b w f ∙ ap (λ (d : Due). sizeAt d (w .rest .length)) (sym k) in
       let e = ends a in
       is-here p w (ap isEnd k ∙ going b) (omega arith)
-      ∙ ap (λ (l : List ℕ). blockAt (w .due) l w) (ap (λ (i : ℕ). take (w .at + i) p) (sym size) ∙ front-all room (w .at) (bytesOf b) (lengthOf b) n (a .within))
-      ∙ ap (λ (d : Due). blockAt d p w) k
+      ∙ ap (λ (l : List ℕ). sayBlock (w .due) l w) (ap (λ (i : ℕ). take (w .at + i) p) (sym size) ∙ front-all room (w .at) (bytesOf b) (lengthOf b) n (a .within))
+      ∙ ap (λ (d : Due). sayBlock d p w) k
       ∙ says-in (kindOf b) p room w (going b) (λ d. front-before room (w .at) (bytesOf b) (lengthOf b) n (a .within) 256 _ (cut-behind (written w room) w (a .stops) (k ∙ d)))
       ∙ ap (λ (x : Block). saysOf x room w) (finds b fits p w f (front-last room (w .at) (bytesOf b) (lengthOf b) n (a .within)))
 

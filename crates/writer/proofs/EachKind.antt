@@ -25,8 +25,8 @@ use Rattle.walk.specs.declared.due.Due.{Due}
 use Rattle.walk.specs.declared.due.Due.the-variants as due
 use Rattle.walk.specs.declared.due.Walk.{Walk}
 use Rattle.walk.specs.Due.{sizeAt, isEnd, cutPlace}
-use Rattle.reading.specs.Step.{takeGeneric, takeSite, takeTask, takeCut, takeRadial, takeMoment, takeData, blockAt}
-use Rattle.reading.proofs.Run.{Plain, took, settle-plain}
+use Rattle.reading.specs.Step.{takeGeneric, takeSite, takeTask, takeCut, takeRadial, takeMoment, takeData, blockAt, hopeAt, hoping, sayRadial, sayBlock}
+use Rattle.reading.proofs.Run.{Plain, took, settle-plain, hoping-plain}
 use Rattle.writer.specs.Block.{Block, generic, site, task, cut, radial, moment, «data», kindOf, saysOf, fitsOf, lengthOf, bytesOf}
 use Rattle.writer.specs.Trips.{Fits, blockIn}
 
@@ -76,9 +76,9 @@ unfolding takeGeneric takeSite takeTask takeCut takeRadial takeMoment takeData
 says-plain (generic r) room w = settle-plain _ _ _
 says-plain (site r) room w = settle-plain _ _ _
 says-plain (task r) room w = settle-plain _ _ _
-says-plain (cut r) room w = settle-plain _ _ _
-says-plain (radial r) room w = settle-plain _ _ _
-says-plain (moment r) room w = settle-plain _ _ _
+says-plain (cut r) room w = hoping-plain _ _ _ (settle-plain _ _ _)
+says-plain (radial r) room w = hoping-plain _ _ _ (settle-plain _ _ _)
+says-plain (moment r) room w = hoping-plain _ _ _ (settle-plain _ _ _)
 says-plain («data» bs) room w = took _ refl
 
 -- ---- the reader finds in p what was put there
@@ -95,13 +95,13 @@ finds («data» bs) h p w f e = ap «data» (ap (λ (n : ℕ). part n p (w .at))
 
 -- what it says of a block is what is said of the block that stands there; a radial's cut is to be the same in both
 pub says-in : (d : Due) (p room : List ℕ) (w : Walk) → isEnd d ≡ false → (d ≡ due.Radial → part 256 p (cutPlace (w .count .cut)) ≡ part 256 room (cutPlace (w .count .cut)))
-    → blockAt d p w ≡ saysOf (blockIn d p w) room w
-unfolding blockAt isEnd cutAt
+    → sayBlock d p w ≡ saysOf (blockIn d p w) room w
+unfolding blockAt hopeAt hoping isEnd cutAt
 says-in due.Generic p room w i c = refl
 says-in due.Site p room w i c = refl
 says-in due.Task p room w i c = refl
 says-in due.Cut p room w i c = refl
-says-in due.Radial p room w i c = ap (λ (l : List ℕ). takeRadial (radialAt p (w .at)) (cutOf l) w) (c refl)
+says-in due.Radial p room w i c = ap (λ (l : List ℕ). sayRadial (radialAt p (w .at)) (cutOf l) w) (c refl)
 says-in due.Moment p room w i c = refl
 says-in due.Data p room w i c = refl
 says-in due.Nothing p room w i c = absurd (let z : _≡_ {A = ℕ} 0 1 = cc in omega arith)

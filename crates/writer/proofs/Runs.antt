@@ -2,7 +2,7 @@
 use Prim.Native.Nat.{ℕ, _≤_}
 use native.Mathlib.Omega.{arith}
 use mathlib.Core.Path.{_≡_, refl, sym, ap, subst, subst⁻¹, _∙_}
-use mathlib.Core.Bool.{false}
+use mathlib.Core.Bool.{false, true}
 use mathlib.Core.List.{List, []}
 use lib.ListN.{length}
 use lib.Seq.{length-take-le}
@@ -11,7 +11,7 @@ use Rattle.walk.specs.declared.due.Due.the-variants as due
 use Rattle.walk.specs.declared.due.Walk.{Walk}
 use Rattle.walk.specs.Due.{sizeAt, isEnd, atStart}
 use Rattle.reading.specs.Reading.{stop, fuel, endingTold}
-use Rattle.reading.specs.Step.{blockAt, takeData, stepOf}
+use Rattle.reading.specs.Step.{blockAt, takeData, hopeAt, hoping, sayBlock, stepOf}
 use Rattle.reading.proofs.Run.{stays, View, here, short, over, done, view, is-here, is-short, is-done, run-stays, last-off, enough}
 use Rattle.writer.specs.Agree.{written, Agrees}
 use Rattle.writer.specs.Block.{Block}
@@ -32,8 +32,8 @@ agrees-along (fresh room) = start room
 agrees-along (more {bs} {w} {room} b fits r t) = keeps b fits w room .agree t
 
 -- a block with no byte is data, which the reader takes
-empty-goes : (d : Due) (p : List ℕ) (w : Walk) → isEnd d ≡ false → sizeAt d (w .rest .length) ≤ 0 → stays (blockAt d p w) → ⊥
-unfolding isEnd sizeAt blockAt takeData stays
+empty-goes : (d : Due) (p : List ℕ) (w : Walk) → isEnd d ≡ false → sizeAt d (w .rest .length) ≤ 0 → stays (sayBlock d p w) → ⊥
+unfolding isEnd sizeAt blockAt hopeAt hoping takeData stays
 empty-goes due.Generic p w i h s = omega arith
 empty-goes due.Site p w i h s = omega arith
 empty-goes due.Task p w i h s = omega arith

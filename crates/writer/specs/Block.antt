@@ -20,7 +20,7 @@ use Rattle.walk.specs.declared.due.Due.{Due}
 use Rattle.walk.specs.declared.due.Due.the-variants as due
 use Rattle.walk.specs.declared.due.Walk.{Walk}
 use Rattle.reading.specs.declared.step.Step.{Step}
-use Rattle.reading.specs.Step.{takeGeneric, takeSite, takeTask, takeCut, takeRadial, takeMoment, takeData, cutIn}
+use Rattle.reading.specs.Step.{takeGeneric, takeSite, takeTask, takeData, sayCut, sayRadial, sayMoment, cutIn}
 
 -- one of the seven that a volume is made of ("Blocks")
 pub data Block : Type 0 where
@@ -42,14 +42,15 @@ kindOf (radial r) = due.Radial
 kindOf (moment r) = due.Moment
 kindOf («data» bs) = due.Data
 
--- what the reader says of it where it is due; a radial's cut stands in what is written ("Writing": the table's checks)
+-- what the reader says of it where it is due; a radial's cut stands in what is written ("Writing": the table's checks; then 40:
+-- document 02, #110)
 abbrev pub saysOf : Block → List ℕ → Walk → Step
 saysOf (generic r) room w = takeGeneric r w
 saysOf (site r) room w = takeSite r w
 saysOf (task r) room w = takeTask r w
-saysOf (cut r) room w = takeCut r w
-saysOf (radial r) room w = takeRadial r (cutIn room w) w
-saysOf (moment r) room w = takeMoment r w
+saysOf (cut r) room w = sayCut r w
+saysOf (radial r) room w = sayRadial r (cutIn room w) w
+saysOf (moment r) room w = sayMoment r w
 saysOf («data» bs) room w = takeData w
 
 -- whether it has the length that its header said: only data can have another (35)

@@ -8,7 +8,7 @@ use Rattle.radial.specs.declared.Radial.{Radial}
 use Rattle.walk.specs.declared.due.Walk.{Walk}
 use Rattle.walk.specs.Due.{cutPlace}
 use Rattle.reading.specs.declared.step.Step.{Step}
-use Rattle.reading.specs.Step.{takeRadial, cutIn, takeByMasks}
+use Rattle.reading.specs.Step.{cutIn, sayRadial, sayByMasks}
 use Rattle.reading.specs.Take.{inRoom}
 use Rattle.reading.proofs.Masks.{by-masks}
 use Rattle.writer.specs.Block.{radial}
@@ -17,8 +17,8 @@ use Rattle.writer.proofs.on.radial_on.Statement.{statement}
 use Rattle.writer.proofs.on.radial_on.Tie as tie
 
 -- the masks that are read are those of the radial's cut
-in-cut : (r : Radial) (w : Walk) (room : List ℕ) {s : Step} {mask sizes place : ℕ} → s ≡ inRoom (w .at) (takeByMasks r mask sizes w)
-    → mask ≡ le 8 room (place + 84) → sizes ≡ le 8 room (place + 92) → place ≡ cutPlace (w .count .cut) → s ≡ inRoom (w .at) (takeRadial r (cutIn room w) w)
+in-cut : (r : Radial) (w : Walk) (room : List ℕ) {s : Step} {mask sizes place : ℕ} → s ≡ inRoom (w .at) (sayByMasks r mask sizes w)
+    → mask ≡ le 8 room (place + 84) → sizes ≡ le 8 room (place + 92) → place ≡ cutPlace (w .count .cut) → s ≡ inRoom (w .at) (sayRadial r (cutIn room w) w)
 in-cut r w room e m z k = e ∙ ap (inRoom (w .at)) (rw (m, z, k) (by-masks room w r))
 
 returns : tie.Need-returns
