@@ -1,0 +1,2 @@
+pub mod Was
+pub mod Hoped
