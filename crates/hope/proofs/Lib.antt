@@ -1,2 +1,3 @@
 pub mod Was
 pub mod Hoped
+pub mod Back
