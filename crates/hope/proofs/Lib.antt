@@ -1,3 +1,6 @@
 pub mod Was
 pub mod Hoped
 pub mod Back
+pub mod Made
+pub mod Headers
+pub mod Onwards
