@@ -4,3 +4,4 @@ pub mod Back
 pub mod Made
 pub mod Headers
 pub mod Onwards
+pub mod Told

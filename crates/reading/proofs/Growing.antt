@@ -78,7 +78,7 @@ last-rest y k f =
     run-along true y (λ v n r. r) f (λ k w x. x ≡ y (last k f w)) (λ k w h. ap y (sym (run-halts true (λ v. v) (λ v n r. r) k f w h)))
     (λ k w m x e r. r ∙ ap y (sym (run-took true (λ v. v) (λ v n r. r) k f w m e))) k
 
-stretch-append : (b : Bool) (w n : Walk) (r t : List Stretch) → stretchIf b w n (r ++ t) ≡ stretchIf b w n r ++ t
+pub stretch-append : (b : Bool) (w n : Walk) (r t : List Stretch) → stretchIf b w n (r ++ t) ≡ stretchIf b w n r ++ t
 unfolding stretchIf
 stretch-append true w n r t = refl
 stretch-append false w n r t = refl
