@@ -10,8 +10,7 @@ use mathlib.Core.Logic.{dite}
 use lib.Dec.{eqb, leb, ltb}
 use lib.ListN.{take}
 use borrow.Author.Tests.{le-leb, lt-ltb, eqb-true, leb-true, leb-false, ltb-true, ltb-false}
-use Rattle.le.specs.Le.{Bytes}
-use Rattle.le.proofs.Laws.{le-lt, part-bytes, part-take}
+use Rattle.le.proofs.Laws.{part-take}
 use Rattle.rules.specs.States.{closing, stateOk}
 use Rattle.rules.specs.Tiling.{lengthOk}
 use Rattle.rules.proofs.Allowed.{first-allowed}
@@ -41,13 +40,8 @@ use Rattle.reading.specs.Step.{takeGeneric, takeSite, takeTask, takeCut, takeRa
 use Rattle.reading.specs.Reading.{walkBy, lastBy, fuel, endingTold, plainStop, plainTold, stop, told}
 use Rattle.reading.proofs.Exactly.{step-done}
 use Rattle.reading.proofs.Run.{settle-took, settle-fine, took-inj, due-either, plain-taken, stays, untaken, ended, Goes, on, off, goes, run-took, run-stays}
-use Rattle.hope.proofs.Was.{Cutting, Stands, Inside, Was, was-on}
+use Rattle.hope.proofs.Was.{AllNarrow, Cutting, Stands, Inside, mask-small, Was, was-on}
 use Rattle.hope.proofs.Hoped.{Masks, dueHope, cut-there, next-cut, same-cut}
-
--- a mask is a number of 64 bits
-pub mask-small : (f : List ℕ) (at : ℕ) → Bytes f → cutAt f at .«moments_mask» < 2 ^ 64
-unfolding cutAt cutOf
-mask-small f at bs = le-lt 8 _ 84 (part-bytes 256 f at bs)
 
 -- ---- what a walk had, by what is due: the masks of the cuts whose radials are still to come stand in the file
 
@@ -73,7 +67,7 @@ unfolding Had dueIf
 had-cut true f w h = h .0
 had-cut false f w h = h
 
-hope-cut : (f : List ℕ) (w : Walk) → Cutting w → Masks f 1 (w .plan .cuts) → hopeAfterCut (cutAt (take (w .at + 256) f) (w .at)) ≡ true
+hope-cut : (f : List ℕ) (w : Walk) → Cutting f w → Masks f 1 (w .plan .cuts) → hopeAfterCut (cutAt (take (w .at + 256) f) (w .at)) ≡ true
 unfolding hopeAfterCut
 hope-cut f w i h =
     let s = i .some in
@@ -177,14 +171,14 @@ record Hopes (d : Due) (f : List ℕ) (w : Walk) : Type 0 where
   test : hopeAt d (take (w .at + sizeAt d (w .rest .length)) f) w ≡ true
 
 -- the walk behind a block that was taken, written out
-module _ (f : List ℕ) (w m : Walk) (bs : Bytes f) where
-  back-cut : Cutting w → takeCut (cutAt (take (w .at + 256) f) (w .at)) w ≡ Took m → Had (m .due) f m → Hopes due.Cut f w
+module _ (f : List ℕ) (w m : Walk) where
+  back-cut : Cutting f w → takeCut (cutAt (take (w .at + 256) f) (w .at)) w ≡ Took m → Had (m .due) f m → Hopes due.Cut f w
   unfolding takeCut sizeAt hopeAt Had
   back-cut i e h =
       let masks = had-cut (leb (w .rest .todo) 1) f w (subst (λ (x : Walk). Had (x .due) f x) (sym (settle-took _ _ _ m e)) h) in
       record { had = masks; test = hope-cut f w i masks }
 
-  back-radial : Stands w → takeRadial (radialAt (take (w .at + 64) f) (w .at)) (cutIn (take (w .at + 64) f) w) w ≡ Took m → Had (m .due) f m → Hopes due.Radial f w
+  back-radial : Stands f w → takeRadial (radialAt (take (w .at + 64) f) (w .at)) (cutIn (take (w .at + 64) f) w) w ≡ Took m → Had (m .due) f m → Hopes due.Radial f w
   unfolding takeRadial radialCheck sizeAt hopeAt hopeAfterRadial radialHope Had cutAt
   back-radial i e h =
       let r = radialAt (take (w .at + 64) f) (w .at) in
@@ -218,7 +212,7 @@ module _ (f : List ℕ) (w m : Walk) (bs : Bytes f) where
       let q : takeMoment r w ≡ Took n = e ∙ ap Took (sym t) in
       let inner : Inner f n = subst (λ (x : Walk). Had (x .due) f x) (sym t) h in
       let test = hope-moment r w n some q (inner .moments) in
-      let small : w .present .mask < 2 ^ 64 = subst (λ (k : ℕ). k < 2 ^ 64) (sym (i .mask)) (mask-small f (cutPlace (w .count .cut)) bs) in
+      let small = mask-small f w i in
       record { had = record { masks = inner .masks; moments = λ k. had-moment r w n small some q test; radials = inner .radials }; test = test }
 
   back-data : Inside f w → takeData w ≡ Took m → Had (m .due) f m → Hopes due.Data f w
@@ -231,16 +225,16 @@ module _ (f : List ℕ) (w m : Walk) (bs : Bytes f) where
         test = refl;
       }
 
-back-on : (d : Due) (f : List ℕ) (w m : Walk) → Bytes f → Was d f w → blockAt d (take (w .at + sizeAt d (w .rest .length)) f) w ≡ Took m → Had (m .due) f m → Hopes d f w
+back-on : (d : Due) (f : List ℕ) (w m : Walk) → Was d f w → blockAt d (take (w .at + sizeAt d (w .rest .length)) f) w ≡ Took m → Had (m .due) f m → Hopes d f w
 unfolding blockAt sizeAt hopeAt Was Had
-back-on due.Generic f w m bs i e h = record { had = tt; test = refl }
-back-on due.Site f w m bs i e h = record { had = tt; test = refl }
-back-on due.Task f w m bs i e h = record { had = tt; test = refl }
-back-on due.Cut f w m bs i e h = back-cut f w m bs i e h
-back-on due.Radial f w m bs i e h = back-radial f w m bs i e h
-back-on due.Moment f w m bs i e h = back-moment f w m bs (i .0) (i .1) e h
-back-on due.Data f w m bs i e h = back-data f w m bs i e h
-back-on due.Nothing f w m bs i e h = absurd (let z : _≡_ {A = ℕ} 0 1 = cc in omega arith)
+back-on due.Generic f w m i e h = record { had = tt; test = refl }
+back-on due.Site f w m i e h = record { had = tt; test = refl }
+back-on due.Task f w m i e h = record { had = tt; test = refl }
+back-on due.Cut f w m i e h = back-cut f w m i e h
+back-on due.Radial f w m i e h = back-radial f w m i e h
+back-on due.Moment f w m i e h = back-moment f w m (i .0) (i .1) e h
+back-on due.Data f w m i e h = back-data f w m i e h
+back-on due.Nothing f w m i e h = absurd (let z : _≡_ {A = ℕ} 0 1 = cc in omega arith)
 
 -- ---- along a reading
 
@@ -271,17 +265,17 @@ record Same (k : ℕ) (f : List ℕ) (w : Walk) : Type 0 where
   same : lastBy true k f w ≡ lastBy false k f w
 
 -- THE FIRST HALF: where the plain reading comes to a volume's end, the reading goes the same way
-back : (k : ℕ) (f : List ℕ) (w : Walk) → Bytes f → Was (w .due) f w → isEnd (lastBy false k f w .due) ≡ true → Same k f w
+back : (k : ℕ) (f : List ℕ) (w : Walk) → AllNarrow f → Was (w .due) f w → isEnd (lastBy false k f w .due) ≡ true → Same k f w
 unfolding walkBy
-back zero f w bs i e = record { had = ended-had (w .due) f w e; same = refl }
-back (suc k) f w bs i e = go (goes false f w) (λ m. back k f m bs)
+back zero f w small i e = record { had = ended-had (w .due) f w e; same = refl }
+back (suc k) f w small i e = go (goes false f w) (λ m. back k f m small)
   where
     go : Goes false f w → ((m : Walk) → Was (m .due) f m → isEnd (lastBy false k f m .due) ≡ true → Same k f m) → Same (suc k) f w
     go (on m q) ih =
         let b = plain-taken f w m q .block in
         let p = run-took false (λ v. v) (λ v n r. r) k f w m q in
-        let r = ih m (was-on (w .due) f w m i b) (subst (λ (x : Walk). isEnd (x .due) ≡ true) p e) in
-        let h = back-on (w .due) f w m bs i b (r .had) in
+        let r = ih m (was-on (w .due) f w m small i b) (subst (λ (x : Walk). isEnd (x .due) ≡ true) p e) in
+        let h = back-on (w .due) f w m i b (r .had) in
         record { had = h .had; same = run-took true (λ v. v) (λ v n r. r) k f w m (with-hope f w m q (h .test)) ∙ r .same ∙ sym p }
     go (off q) ih =
         let p = run-stays false (λ v. v) (λ v n r. r) (suc k) f w q in
@@ -294,12 +288,12 @@ pub was-first : (f : List ℕ) → Was (atStart .due) f atStart
 unfolding Was
 was-first f = record { place = refl; whole = refl; in-cut = refl }
 
-module _ (f : List ℕ) (bs : Bytes f) (e : plainTold f ≡ 0 ∷ []) where
+module _ (f : List ℕ) (small : AllNarrow f) (e : plainTold f ≡ 0 ∷ []) where
   done : plainStep f (plainStop f) ≡ Complete
   done = step-done (plainStep f (plainStop f)) e
 
   pub complete-way : stop f ≡ plainStop f
-  complete-way = back (fuel f) f atStart bs (was-first f) (ended false f (plainStop f) done .0) .same
+  complete-way = back (fuel f) f atStart small (was-first f) (ended false f (plainStop f) done .0) .same
 
   pub complete-told : told f ≡ 0 ∷ []
   unfolding stays

@@ -53,13 +53,13 @@ Hoped due.Nothing f w = Unit {0}
 -- ---- a cut's block: its own mask besides those before it
 
 -- the block that is due stands in the file at its cut's place
-pub cut-there : (f : List ℕ) (w : Walk) → Cutting w → cutAt (take (w .at + 256) f) (w .at) ≡ cutAt f (cutPlace (suc (w .plan .cuts - w .rest .todo)))
+pub cut-there : (f : List ℕ) (w : Walk) → Cutting f w → cutAt (take (w .at + 256) f) (w .at) ≡ cutAt f (cutPlace (suc (w .plan .cuts - w .rest .todo)))
 unfolding cutAt
 cut-there f w h =
     let p : w .at ≡ cutPlace (suc (w .plan .cuts - w .rest .todo)) = let q = h .fresh .place in omega arith in
     ap cutOf (part-take 256 f (w .at) (w .at + 256) (omega arith)) ∙ ap (cutAt f) p
 
-masks-more : (f : List ℕ) (w : Walk) → Cutting w → hopeAfterCut (cutAt (take (w .at + 256) f) (w .at)) ≡ true → Masks f 1 (w .plan .cuts - w .rest .todo) → Masks f 1 (suc (w .plan .cuts - w .rest .todo))
+masks-more : (f : List ℕ) (w : Walk) → Cutting f w → hopeAfterCut (cutAt (take (w .at + 256) f) (w .at)) ≡ true → Masks f 1 (w .plan .cuts - w .rest .todo) → Masks f 1 (suc (w .plan .cuts - w .rest .todo))
 unfolding hopeAfterCut
 masks-more f w h some masks c a b =
     dite (decLt (w .plan .cuts - w .rest .todo) c)
@@ -67,7 +67,7 @@ masks-more f w h some masks c a b =
     subst (λ (n : ℕ). 0 < cutAt f (cutPlace n) .«moments_mask») e (subst (λ (x : Cut). 0 < x .«moments_mask») (cut-there f w h) (ltb-true 0 _ some)))
     (λ k. masks c a (omega arith))
 
-hoped-cut : (b : Bool) (f : List ℕ) (w : Walk) → leb (w .rest .todo) 1 ≡ b → Cutting w → Masks f 1 (suc (w .plan .cuts - w .rest .todo))
+hoped-cut : (b : Bool) (f : List ℕ) (w : Walk) → leb (w .rest .todo) 1 ≡ b → Cutting f w → Masks f 1 (suc (w .plan .cuts - w .rest .todo))
     → Hoped (dueIf b due.Radial due.Cut) f (afterCut w (w .at + 256))
 unfolding Hoped dueIf dueHope radialsCan
 hoped-cut true f w e h masks =

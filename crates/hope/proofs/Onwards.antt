@@ -27,29 +27,29 @@ use Rattle.writer.proofs.Ahead.{stops-next}
 use Rattle.writer.proofs.Bytes.{front-all, front-last, front-before}
 use Rattle.writer.proofs.EachKind.{going, long, size-is, finds, says-in}
 use Rattle.writer.proofs.Places.{cut-behind}
-use Rattle.hope.proofs.Was.{Cutting, Stands, Inside, Was, was-on}
+use Rattle.hope.proofs.Was.{AllNarrow, bytes-narrow, Cutting, Stands, Inside, mask-small, Was, was-on}
 use Rattle.hope.proofs.Hoped.{Within, Hoped, hoped-on}
-use Rattle.hope.proofs.Back.{mask-small, was-first}
+use Rattle.hope.proofs.Back.{was-first}
 use Rattle.hope.proofs.Made.{append-bytes, none-bytes, zeros, zeros-length, zeros-bytes, theGeneric, theSite, theTask, theCut, generic-fits, site-fits, task-fits, cut-fits, generic-fine, site-fine, task-fine, cut-fine, generic-bytes, site-bytes, task-bytes, cut-bytes}
 use Rattle.hope.proofs.Headers.{moment-on, radial-on}
 
 -- ---- the walk where a reading stops has hope
 
-pub record Good (f : List ℕ) (w : Walk) : Type 0 where
-  pub was : Was (w .due) f w
-  pub hoped : Hoped (w .due) f w
+record Good (f : List ℕ) (w : Walk) : Type 0 where
+  was : Was (w .due) f w
+  hoped : Hoped (w .due) f w
 
-pub good-on : (f : List ℕ) (w m : Walk) → stepOf f w ≡ step.Took m → Good f w → Good f m
-good-on f w m e g =
+good-on : (f : List ℕ) → AllNarrow f → (w m : Walk) → stepOf f w ≡ step.Took m → Good f w → Good f m
+good-on f small w m e g =
     let t = taken f w m e in
-    record { was = was-on (w .due) f w m (g .was) (t .block); hoped = hoped-on (w .due) f w m (g .was) (g .hoped) (took-hope f w m e) (t .block) }
+    record { was = was-on (w .due) f w m small (g .was) (t .block); hoped = hoped-on (w .due) f w m (g .was) (g .hoped) (took-hope f w m e) (t .block) }
 
-pub good-first : (f : List ℕ) → Good f atStart
+good-first : (f : List ℕ) → Good f atStart
 unfolding Hoped
 good-first f = record { was = was-first f; hoped = tt }
 
-good-stop : (f : List ℕ) → Good f (stop f)
-good-stop f = last-holds true f (Good f) (good-on f) (fuel f) atStart (good-first f)
+good-stop : (f : List ℕ) → AllNarrow f → Good f (stop f)
+good-stop f small = last-holds true f (Good f) (good-on f small) (fuel f) atStart (good-first f)
 
 -- ---- a block's bytes behind a file whose blocks are all accepted: the reading takes the block and stops behind it
 
@@ -132,7 +132,7 @@ module _ (f : List ℕ) (w : Walk) where
   unfolding takeTask settle
   next-task d = record { block = task theTask; after = afterTask 0 1 w (w .at + 256); comes = record { fits = task-fits; bytes = task-bytes; kind = d; whole = refl; says = rw task-fine }; nearer = omega arith }
 
-  next-cut : w .due ≡ due.Cut → Cutting w → Next due.Cut f w
+  next-cut : w .due ≡ due.Cut → Cutting f w → Next due.Cut f w
   unfolding takeCut settle hopeAfterCut hoping dueIf
   next-cut d i =
       record {
@@ -146,13 +146,13 @@ module _ (f : List ℕ) (w : Walk) where
             dite (decLt 1 (w .rest .todo)) (λ t. rw (lt-leb (w .rest .todo) 1 t) (omega arith)) (λ t. rw (le-leb (w .rest .todo) 1 (omega arith), z) (omega arith));
       }
 
-  next-radial : w .due ≡ due.Radial → Bytes f → Stands w → Hoped due.Radial f w → Next due.Radial f w
+  next-radial : w .due ≡ due.Radial → Stands f w → Hoped due.Radial f w → Next due.Radial f w
   unfolding Hoped closesCut
-  next-radial d bs i h =
+  next-radial d i h =
       let c = cutIn f w in
       let l = i .last in
       let m = i .few in
-      let o = radial-on c w (h .0 (w .count .cut) (i .first) (i .last)) (mask-small f (cutPlace (w .count .cut)) bs) (omega arith) (h .1) in
+      let o = radial-on c w (h .0 (w .count .cut) (i .first) (i .last)) (i .narrow (w .count .cut) (i .first) (i .last)) (omega arith) (h .1) in
       let r = o .header in
       let one = o .one in
       let z = o .nearer in
@@ -163,10 +163,10 @@ module _ (f : List ℕ) (w : Walk) where
         nearer = omega arith;
       }
 
-  next-moment : w .due ≡ due.Moment → Bytes f → Inside f w → 1 ≤ w .rest .todo → Within f w → Next due.Moment f w
+  next-moment : w .due ≡ due.Moment → Inside f w → 1 ≤ w .rest .todo → Within f w → Next due.Moment f w
   unfolding closesCut
-  next-moment d bs i some h =
-      let o = moment-on w (subst (λ (k : ℕ). k < 18446744073709551616) (sym (i .mask)) (mask-small f (cutPlace (w .count .cut)) bs)) some (h .moments) in
+  next-moment d i some h =
+      let o = moment-on w (mask-small f w i) some (h .moments) in
       let r = o .header in
       record {
         block = moment r;
@@ -201,16 +201,16 @@ module _ (f : List ℕ) (w : Walk) where
         nearer = nearer-data (ltb 0 (w .rest .todo)) (closesCut w) (ltb (w .count .cut) (w .plan .cuts)) (w .at + n) refl refl refl (i .numbered);
       }
 
-next-on : (d : Due) (f : List ℕ) (w : Walk) → Bytes f → w .due ≡ d → Was d f w → Hoped d f w → (isEnd (w .due) ≡ true) ⊎ Next d f w
+next-on : (d : Due) (f : List ℕ) (w : Walk) → w .due ≡ d → Was d f w → Hoped d f w → (isEnd (w .due) ≡ true) ⊎ Next d f w
 unfolding isEnd Was Hoped
-next-on due.Generic f w bs e i h = inr (next-generic f w e)
-next-on due.Site f w bs e i h = inr (next-site f w e)
-next-on due.Task f w bs e i h = inr (next-task f w e)
-next-on due.Cut f w bs e i h = inr (next-cut f w e i)
-next-on due.Radial f w bs e i h = inr (next-radial f w e bs i h)
-next-on due.Moment f w bs e i h = inr (next-moment f w e bs (i .0) (i .1) h)
-next-on due.Data f w bs e i h = inr (next-data f w e i)
-next-on due.Nothing f w bs e i h = inl (ap isEnd e)
+next-on due.Generic f w e i h = inr (next-generic f w e)
+next-on due.Site f w e i h = inr (next-site f w e)
+next-on due.Task f w e i h = inr (next-task f w e)
+next-on due.Cut f w e i h = inr (next-cut f w e i)
+next-on due.Radial f w e i h = inr (next-radial f w e i h)
+next-on due.Moment f w e i h = inr (next-moment f w e (i .0) (i .1) h)
+next-on due.Data f w e i h = inr (next-data f w e i)
+next-on due.Nothing f w e i h = inl (ap isEnd e)
 
 -- ---- and so on to the end
 
@@ -222,10 +222,10 @@ pub record Finish (f : List ℕ) : Type 0 where
 finish : (n : ℕ) (f : List ℕ) (w : Walk) → Ends f w → far (w .due) w < n → Finish f
 unfolding endingTold
 finish zero f w e h = absurd (omega arith)
-finish (suc n) f w e h = go (next-on (w .due) f w (e .bytes) refl (g .was) (g .hoped)) (λ v x. finish n v x)
+finish (suc n) f w e h = go (next-on (w .due) f w refl (g .was) (g .hoped)) (λ v x. finish n v x)
   where
     g : Good f w
-    g = subst (Good f) (e .stops) (good-stop f)
+    g = subst (Good f) (e .stops) (good-stop f (bytes-narrow f (e .bytes)))
 
     go : (isEnd (w .due) ≡ true) ⊎ Next (w .due) f w → ((v : List ℕ) (x : Walk) → Ends v x → far (x .due) x < n → Finish v) → Finish f
     go (inl d) later =

@@ -18,16 +18,19 @@ use Rattle.reading.specs.declared.step.Step.{Step}
 use Rattle.reading.specs.declared.step.Step.the-variants.{Took, Open, Refused, Complete}
 use Rattle.reading.specs.Step.{hopeAt, hoping, plainly, sayBlock, stepBy, plainStep, stepOf}
 use Rattle.reading.specs.Reading.{lastBy, last, fuel, stretchOf, traceBy, endingTold, plainStop, plainStretches, plainTold, stop, ending, stretches, told}
-use Rattle.reading.proofs.Run.{Asked, asks, is-here, to-plain, taken, plain-taken, stays, run-stops, run-stays, run-step, last-holds, last-off, last-within, enough}
+use Rattle.reading.proofs.Run.{Asked, asks, is-here, to-plain, took-hope, taken, plain-taken, stays, run-stops, run-stays, run-step, last-holds, last-off, last-within, enough}
 use Rattle.reading.proofs.Run as run
 use Rattle.reading.proofs.Exactly.{step-done}
 use Rattle.reading.proofs.Growing.{stretch-append, through, rests}
 use Rattle.reading.proofs.Grown.{grows}
 use Rattle.writer.proofs.Ahead.{stops-next}
 use Rattle.writer.proofs.Runs as writing
+use Rattle.volume.specs.InPlace.{AllInPlace}
 use Rattle.volume.proofs.Accepts.{holds}
 use Rattle.volume.proofs.Meaning.{reads}
+use Rattle.volume.proofs.Placed as placed
 use Rattle.hope.specs.Hope.{Hope, Begins, Reached, start, next, Tested, Lost, Against, same, lost, ReadAlike}
+use Rattle.hope.proofs.Was.{bytes-narrow}
 use Rattle.hope.proofs.Back.{with-hope, no-block, complete-told}
 use Rattle.hope.proofs.Made.{append-bytes}
 use Rattle.hope.proofs.Onwards.{Finish, completes}
@@ -191,7 +194,7 @@ module _ (f : List ℕ) (w m : Walk) (bs : Bytes f) (r : Reached f w) (e : plain
 
   whole-complete : told whole ≡ 0 ∷ []
   unfolding whole
-  whole-complete = complete-told whole (append-bytes (take (m .at) f) (h .more) (front-bytes (m .at) f bs) (h .bytes)) (h .complete)
+  whole-complete = complete-told whole (bytes-narrow whole (append-bytes (take (m .at) f) (h .more) (front-bytes (m .at) f bs) (h .bytes))) (h .complete)
 
   same-front : (n : ℕ) → n ≤ m .at → take n whole ≡ take n f
   unfolding whole
@@ -232,5 +235,106 @@ module _ (f : List ℕ) (w m : Walk) (bs : Bytes f) (r : Reached f w) (e : plain
   hope-test = go (beside f w)
     where
       go : Beside f w → hopeAt (w .due) (take (w .at + sizeOf w) f) w ≡ true
-      go (alike x) = ?
+      go (alike x) = took-hope f w m (x ∙ e)
       go (past n l t x) = absurd (not-refused 40 (w .at) x)
+
+-- THE THEOREM: at every walk that reading reaches, behind every block that the plain reading takes there, the test says yes exactly where
+-- a continuation exists
+pub tested : (f : List ℕ) (w m : Walk) → Bytes f → Reached f w → plainStep f w ≡ Took m → Tested f w m
+tested f w m bs r e = record { test = (there, hope-test f w m bs r e); left = λ h. with-hope f w m e (hope-test f w m bs r e h); ended = λ none. go none (beside f w) }
+  where
+    there : hopeAt (w .due) (take (w .at + sizeOf w) f) w ≡ true → Hope (take (m .at) f)
+    there t = reached-hope f m bs (next r (with-hope f w m e t))
+
+    go : (Hope (take (m .at) f) → ⊥) → Beside f w → stepOf f w ≡ Refused 40 (w .at)
+    go none (alike x) = absurd (none (there (took-hope f w m (x ∙ e))))
+    go none (past n l t x) = x
+
+-- ---- files
+
+pub accepted-hope : (f : List ℕ) → Bytes f → Hope (take (stop f .at) f)
+accepted-hope f bs = reached-hope f (stop f) bs (reached f)
+
+past-lost : (f : List ℕ) → Bytes f → Past f (stop f) → Lost f
+past-lost f bs x =
+    record {
+      next = x .next;
+      taken = x .taken;
+      none = λ h. let t = tested f (stop f) (x .next) bs (reached f) (x .taken) .test .1 h in let n = x .none in let z : _≡_ {A = ℕ} 0 1 = cc in omega arith;
+    }
+
+pub against : (f : List ℕ) → Bytes f → Against f
+unfolding endingTold
+against f bs = go (way f .stops)
+  where
+    go : ((stop f ≡ plainStop f) × (way f .rest ≡ [])) ⊎ (Past f (stop f) × (stop f .at < plainStop f .at)) → Against f
+    go (inl x) = same (same-told f (x .0)) (x .0) (sym (way f .stretches ∙ ap (λ (l : List Stretch). stretches f ++ l) (x .1) ∙ append-nil (stretches f)))
+    go (inr x) = lost (past-lost f bs (x .0)) (ap endingTold (x .0 .refused)) (x .1)
+
+-- 40 is told where hope ended, and nowhere else
+pub lost-when : (f : List ℕ) → Bytes f → Lost f → told f ≡ 2 ∷ 40 ∷ stop f .at ∷ []
+unfolding endingTold
+lost-when f bs l = ap endingTold (tested f (stop f) (l .next) bs (reached f) (l .taken) .ended (l .none))
+
+-- hope of the whole file: it is complete or open
+pub hope-told : (f : List ℕ) → Bytes f → Hope f → (told f ≡ 0 ∷ []) ⊎ ((n : ℕ) × (told f ≡ 1 ∷ n ∷ []))
+unfolding endingTold stays
+hope-told f bs h = by (h .more) (complete-told (f ++ h .more) (bytes-narrow (f ++ h .more) (append-bytes f (h .more) bs (h .bytes))) (h .complete)) (ending f) refl
+  where
+    by : (c : List ℕ) → told (f ++ c) ≡ 0 ∷ [] → (s : Step) → ending f ≡ s → (told f ≡ 0 ∷ []) ⊎ ((n : ℕ) × (told f ≡ 1 ∷ n ∷ []))
+    by c e (Took m) q = absurd (subst stays q (last-off true (fuel f) f atStart (enough f atStart)))
+    by c e Complete q = inl (ap endingTold q)
+    by c e (Open n) q = inr (n, ap endingTold q)
+    by [] e (Refused n p) q = absurd (let z = sym (ap endingTold q) ∙ sym (ap told (append-nil f)) ∙ e in let o : _≡_ {A = ℕ} 0 1 = cc in omega arith)
+    by (x ∷ c) e (Refused n p) q =
+        let t = ap endingTold q in
+        let z = sym t ∙ sym (grows f (x ∷ c) (omega arith) .refused n p t) ∙ e in
+        absurd (let o : _≡_ {A = ℕ} 0 1 = cc in omega arith)
+
+-- by the grammar
+pub begins : (f : List ℕ) → Bytes f → Hope f ↔ Begins f
+begins f bs = (there, back)
+  where
+    there : Hope f → Begins f
+    there h =
+        let v = holds (f ++ h .more) (append-bytes f (h .more) bs (h .bytes)) (h .complete) in
+        record { volume = v .volume; is = v .is; more = h .more; bytes = h .bytes; begins = v .bytes }
+
+    back : Begins f → Hope f
+    back b = record { more = b .more; bytes = b .bytes; complete = ap plainTold (sym (b .begins)) ∙ reads (b .volume) (b .is) .complete }
+
+-- what is read of a file is what the plain reading reads of its accepted blocks
+pub read-alike : (f : List ℕ) → Bytes f → ReadAlike f
+unfolding endingTold
+read-alike f bs = go (against g gs) (hope-told g gs (accepted-hope f bs))
+  where
+    g : List ℕ
+    g = take (stop f .at) f
+
+    gs : Bytes g
+    gs = front-bytes (stop f .at) f bs
+
+    stops : stop g ≡ stop f
+    stops = reached-stops f (reached f) .stops
+
+    c : List ℕ
+    c = drop (stop f .at) f
+
+    radials : stretches g ≡ stretches f
+    radials =
+        subst (λ (h : List ℕ). stop g ≡ stop h → stretches g ≡ stretches h) (take-append-drop (stop f .at) f)
+        (λ e. sym (rests g c (stepOf (g ++ c) (stop g)) (subst (λ (w : Walk). stays (stepOf (g ++ c) w)) (sym e) (last-off true (fuel (g ++ c)) (g ++ c) atStart (enough (g ++ c) atStart))) refl .radials)) stops
+
+    go : Against g → (told g ≡ 0 ∷ []) ⊎ ((n : ℕ) × (told g ≡ 1 ∷ n ∷ [])) → ReadAlike f
+    go (same t s r) y = record { stops = sym s ∙ stops; radials = sym r ∙ radials }
+    go (lost l t k) (inl e) = absurd (let z : _≡_ {A = ℕ} 0 1 = cc in omega arith)
+    go (lost l t k) (inr e) = let q = e .1 in absurd (let z : _≡_ {A = ℕ} 0 1 = cc in omega arith)
+
+-- ---- whole radials: those of the reading are the first of the plain one's
+
+front-in-place : (f : List ℕ) (before a b : List Stretch) → AllInPlace f before (a ++ b) → AllInPlace f before a
+front-in-place f before [] b h = tt
+front-in-place f before (s ∷ a) b h = (h .0, front-in-place f (s ∷ before) a b (h .1))
+
+pub in-place : (f : List ℕ) → Bytes f → AllInPlace f [] (stretches f)
+in-place f bs = let w = way f in front-in-place f [] (stretches f) (w .rest) (subst (AllInPlace f []) (w .stretches) (placed.in-place f bs))
