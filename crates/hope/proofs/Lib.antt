@@ -5,3 +5,4 @@ pub mod Made
 pub mod Headers
 pub mod Onwards
 pub mod Told
+pub mod Meaning

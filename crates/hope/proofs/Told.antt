@@ -68,12 +68,13 @@ record Past (f : List ℕ) (v : Walk) : Type 0 where
   none : hopeAt (v .due) (take (v .at + sizeOf v) f) v ≡ false
   taken : plainStep f v ≡ Took next
   refused : stepOf f v ≡ Refused 40 (v .at)
+  bytes : v .at < next .at
 
 -- from w on the reading stops at v: there the plain one stops too, or it goes on; it has passed the same stretches and perhaps more
 record Way (f : List ℕ) (w v : Walk) : Type 0 where
   rest : List Stretch
   stretches : traceBy false (fuel f) f w ≡ traceBy true (fuel f) f w ++ rest
-  stops : ((v ≡ lastBy false (fuel f) f w) × (rest ≡ [])) ⊎ (Past f v × (v .at < lastBy false (fuel f) f w .at))
+  stops : ((v ≡ lastBy false (fuel f) f w) × (rest ≡ [])) ⊎ ((x : Past f v) × (x .next .at ≤ lastBy false (fuel f) f w .at))
 
 way : (f : List ℕ) → Way f atStart (stop f)
 way f = run-stops true (λ v. v) (λ v n r. r) f (Way f) stopped stepped (fuel f) atStart (enough f atStart)
@@ -100,7 +101,7 @@ way f = run-stops true (λ v. v) (λ v n r. r) f (Way f) stopped stepped (fuel f
             record {
               rest = traceBy false (fuel f) f w;
               stretches = ap (λ (l : List Stretch). l ++ traceBy false (fuel f) f w) (sym mine);
-              stops = inr (record { next = m; none = l; taken = t; refused = e }, rw p (omega arith));
+              stops = inr (record { next = m; none = l; taken = t; refused = e; bytes = omega arith }, rw p o);
             }
 
     stepped : (w m v : Walk) → stepOf f w ≡ Took m → Way f m v → Way f w v
@@ -153,8 +154,12 @@ module _ (f : List ℕ) where
             ∙ stops-next (take (w .at) f) c w m (s .stops) (ap (λ (g : List ℕ). stepOf g w) (sym q) ∙ front-step w m e) (sym (ap length (sym q) ∙ length-take-le (m .at) f i));
       }
 
-  reached : Reached f (stop f)
+  pub reached : Reached f (stop f)
   reached = last-holds true f (Reached f) (λ w m e r. next r e) (fuel f) atStart start
+
+-- the reading of the accepted blocks stops where that of the file does
+pub front-stops : (f : List ℕ) → stop (take (stop f .at) f) ≡ stop f
+front-stops f = reached-stops f (reached f) .stops
 
 -- ---- told of both
 
@@ -166,17 +171,24 @@ module _ (f : List ℕ) where
   same-told : stop f ≡ plainStop f → told f ≡ plainTold f
   same-told e = ap (λ (w : Walk). endingTold (stepOf f w)) e ∙ ap endingTold (no-block f (plainStop f) stays-plain)
 
+  pub same-radials : stop f ≡ plainStop f → stretches f ≡ plainStretches f
+  same-radials e = go (way f .stops)
+    where
+      go : ((stop f ≡ plainStop f) × (way f .rest ≡ [])) ⊎ ((x : Past f (stop f)) × (x .next .at ≤ plainStop f .at)) → stretches f ≡ plainStretches f
+      go (inl x) = sym (way f .stretches ∙ ap (λ (l : List Stretch). stretches f ++ l) (x .1) ∙ append-nil (stretches f))
+      go (inr x) = let l = x .0 .bytes in let k = x .1 in let a = ap (λ (w : Walk). w .at) e in absurd (omega arith)
+
   pub complete-plain : told f ≡ 0 ∷ [] → plainTold f ≡ 0 ∷ []
   unfolding endingTold
   complete-plain e = go (way f .stops)
     where
-      go : ((stop f ≡ plainStop f) × (way f .rest ≡ [])) ⊎ (Past f (stop f) × (stop f .at < plainStop f .at)) → plainTold f ≡ 0 ∷ []
+      go : ((stop f ≡ plainStop f) × (way f .rest ≡ [])) ⊎ ((x : Past f (stop f)) × (x .next .at ≤ plainStop f .at)) → plainTold f ≡ 0 ∷ []
       go (inl x) = sym (same-told (x .0)) ∙ e
       go (inr x) = let q = ap endingTold (x .0 .refused) in absurd (let z : _≡_ {A = ℕ} 0 1 = cc in omega arith)
 
 -- ---- hope
 
-front-bytes : (n : ℕ) (f : List ℕ) → Bytes f → Bytes (take n f)
+pub front-bytes : (n : ℕ) (f : List ℕ) → Bytes f → Bytes (take n f)
 front-bytes n f bs = middle-bytes n 0 f bs
 
 -- the accepted blocks up to any walk have hope
@@ -264,12 +276,12 @@ past-lost f bs x =
     }
 
 pub against : (f : List ℕ) → Bytes f → Against f
-unfolding endingTold
+unfolding endingTold past-lost
 against f bs = go (way f .stops)
   where
-    go : ((stop f ≡ plainStop f) × (way f .rest ≡ [])) ⊎ (Past f (stop f) × (stop f .at < plainStop f .at)) → Against f
-    go (inl x) = same (same-told f (x .0)) (x .0) (sym (way f .stretches ∙ ap (λ (l : List Stretch). stretches f ++ l) (x .1) ∙ append-nil (stretches f)))
-    go (inr x) = lost (past-lost f bs (x .0)) (ap endingTold (x .0 .refused)) (x .1)
+    go : ((stop f ≡ plainStop f) × (way f .rest ≡ [])) ⊎ ((x : Past f (stop f)) × (x .next .at ≤ plainStop f .at)) → Against f
+    go (inl x) = same (same-told f (x .0)) (x .0) (same-radials f (x .0))
+    go (inr x) = lost (past-lost f bs (x .0)) (ap endingTold (x .0 .refused)) (x .0 .bytes) (x .1)
 
 -- 40 is told where hope ended, and nowhere else
 pub lost-when : (f : List ℕ) → Bytes f → Lost f → told f ≡ 2 ∷ 40 ∷ stop f .at ∷ []
@@ -314,21 +326,18 @@ read-alike f bs = go (against g gs) (hope-told g gs (accepted-hope f bs))
     gs : Bytes g
     gs = front-bytes (stop f .at) f bs
 
-    stops : stop g ≡ stop f
-    stops = reached-stops f (reached f) .stops
-
     c : List ℕ
     c = drop (stop f .at) f
 
     radials : stretches g ≡ stretches f
     radials =
         subst (λ (h : List ℕ). stop g ≡ stop h → stretches g ≡ stretches h) (take-append-drop (stop f .at) f)
-        (λ e. sym (rests g c (stepOf (g ++ c) (stop g)) (subst (λ (w : Walk). stays (stepOf (g ++ c) w)) (sym e) (last-off true (fuel (g ++ c)) (g ++ c) atStart (enough (g ++ c) atStart))) refl .radials)) stops
+        (λ e. sym (rests g c (stepOf (g ++ c) (stop g)) (subst (λ (w : Walk). stays (stepOf (g ++ c) w)) (sym e) (last-off true (fuel (g ++ c)) (g ++ c) atStart (enough (g ++ c) atStart))) refl .radials)) (front-stops f)
 
     go : Against g → (told g ≡ 0 ∷ []) ⊎ ((n : ℕ) × (told g ≡ 1 ∷ n ∷ [])) → ReadAlike f
-    go (same t s r) y = record { stops = sym s ∙ stops; radials = sym r ∙ radials }
-    go (lost l t k) (inl e) = absurd (let z : _≡_ {A = ℕ} 0 1 = cc in omega arith)
-    go (lost l t k) (inr e) = let q = e .1 in absurd (let z : _≡_ {A = ℕ} 0 1 = cc in omega arith)
+    go (same t s r) y = record { stops = sym s ∙ front-stops f; radials = sym r ∙ radials }
+    go (lost l t j k) (inl e) = absurd (let z : _≡_ {A = ℕ} 0 1 = cc in omega arith)
+    go (lost l t j k) (inr e) = let q = e .1 in absurd (let z : _≡_ {A = ℕ} 0 1 = cc in omega arith)
 
 -- ---- whole radials: those of the reading are the first of the plain one's
 

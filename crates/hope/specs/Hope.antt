@@ -1,6 +1,6 @@
 -- Hope (document 02, #110): some further bytes would make a file complete under all other rules. Nothing here counts, adds or looks at
 -- a mask; how reading decides it is in `reading/Step` (`hopeAt`), and that the two are the same is `Tested` below.
-use Prim.Native.Nat.{ℕ, _+_, _<_}
+use Prim.Native.Nat.{ℕ, _+_, _≤_, _<_}
 use mathlib.Core.Bool.{true}
 use mathlib.Core.List.{List, [], _∷_, _++_}
 use mathlib.Core.Logic.{_↔_}
@@ -52,11 +52,11 @@ pub record Lost (f : List ℕ) : Type 0 where
   pub taken : plainStep f (stop f) ≡ Took next
   pub none : Hope (take (next .at) f) → ⊥
 
--- what reading tells of a file against what the plain reading tells: the same, of the same blocks; or 40 at a block before those where
--- the plain one stops
+-- what reading tells of a file against what the plain reading tells: the same, of the same blocks; or 40 at the first byte of a block that
+-- the plain one has taken, with bytes of its own, before it stops
 pub data Against (f : List ℕ) : Type 0 where
   same : told f ≡ plainTold f → stop f ≡ plainStop f → stretches f ≡ plainStretches f → Against f
-  lost : Lost f → told f ≡ 2 ∷ 40 ∷ stop f .at ∷ [] → stop f .at < plainStop f .at → Against f
+  lost : (l : Lost f) → told f ≡ 2 ∷ 40 ∷ stop f .at ∷ [] → stop f .at < l .next .at → l .next .at ≤ plainStop f .at → Against f
 
 -- what is read of a file is what the plain reading reads of its accepted blocks
 pub record ReadAlike (f : List ℕ) : Type 0 where

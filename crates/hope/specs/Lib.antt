@@ -1,1 +1,2 @@
 pub mod Hope
+pub mod Meaning

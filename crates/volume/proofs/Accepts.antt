@@ -36,9 +36,9 @@ use Rattle.volume.proofs.Tells.{tells}
 
 -- ---- the due block: it says what is told, or is accepted
 
-data Tried (a : Accepted) (rest : List ℕ) : Type 0 where
+pub data Tried (a : Accepted) (rest : List ℕ) : Type 0 where
   stops : (x : List ℕ) → Says a rest x → Tried a rest
-  goes : (x g : List ℕ) → rest ≡ x ++ g → Bytes g → (n : Next a x) → tag (n .accepted) + (length g + length g) < tag a + (length rest + length rest) → Tried a rest
+  goes : (x g : List ℕ) → rest ≡ x ++ g → length x ≡ dueSize a → Hold (dueRules a rest) → Bytes g → (n : Next a x) → tag (n .accepted) + (length g + length g) < tag a + (length rest + length rest) → Tried a rest
 
 -- the rules of a record decide
 by-rules : {A : Type 0} (K : Coded A) (a : Accepted) (rest : List ℕ) → Bytes rest → (rules : A → List Rule) → dueSize a ≡ K .size → 0 < K .size → dueRules a rest ≡ rules (K .dec (part (K .size) rest 0))
@@ -55,9 +55,9 @@ by-rules K a rest bs rules size some same next = dite (decLe (dueSize a) (length
         let o = n .other in
         let l = K .long r (s .fits) in
         let q : length rest ≡ length (K .enc r) + length g = ap length (s .bytes) ∙ length-append (K .enc r) g in
-        goes (K .enc r) g (s .bytes) (drop-bytes rest (0 + K .size) (omega arith) bs) n (omega arith)
+        goes (K .enc r) g (s .bytes) (l ∙ sym size) (subst Hold (sym same) (all-hold (rules r) e)) (drop-bytes rest (0 + K .size) (omega arith) bs) n (omega arith)
 
-tried : (a : Accepted) → AcceptedOk a → (rest : List ℕ) → Bytes rest → Tried a rest
+pub tried : (a : Accepted) → AcceptedOk a → (rest : List ℕ) → Bytes rest → Tried a rest
 unfolding genericAt siteAt taskAt cutAt radialAt momentAt
 tried nothing ok rest bs = by-rules generic-trip.coded nothing rest bs genericRules refl (omega arith) refl (λ r fits rules. next-generic r (fits, rules))
 tried (generic g) ok rest bs = by-rules site-trip.coded (generic g) rest bs siteRules refl (omega arith) refl (λ r fits rules. next-site g r ok (fits, rules))
@@ -75,7 +75,7 @@ tried (moment b r m) ok rest bs = dite (decLe (m .length) (length rest)) there (
         let o = n .other in
         let e : rest ≡ x ++ g = cut-here rest 0 (m .length) (omega arith) in
         let l : length rest ≡ length x + length g = ap length e ∙ length-append x g in
-        goes x g e (drop-bytes rest (0 + m .length) (omega arith) bs) n (omega arith)
+        goes x g e (length-part (m .length) rest 0) tt (drop-bytes rest (0 + m .length) (omega arith) bs) n (omega arith)
 tried (volume v) ok [] bs = stops _ (complete v)
 tried (volume v) ok (x ∷ xs) bs = stops _ (follow v x xs)
 
@@ -87,7 +87,7 @@ parsed (suc n) f a ok rest bs e h = go (tried a ok rest bs) (parsed n f)
   where
     go : Tried a rest → ((a : Accepted) → AcceptedOk a → (rest : List ℕ) → Bytes rest → bytesOfAccepted a ++ rest ≡ f → tag a + (length rest + length rest) < n → Accepts f) → Accepts f
     go (stops x says) later = record { accepted = a; is = ok; rest = rest; bytes = e; verdict = x; says = says; told = subst (λ (l : List ℕ). Told l a x) e (tells a rest x ok says) }
-    go (goes x g d gs next less) later =
+    go (goes x g d l rules gs next less) later =
         later (next .accepted) (next .is) g gs
         (ap (λ (l : List ℕ). l ++ g) (next .bytes) ∙ append-assoc (bytesOfAccepted a) x g ∙ ap (λ (l : List ℕ). bytesOfAccepted a ++ l) (sym d) ∙ e)
         (omega arith)

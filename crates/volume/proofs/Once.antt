@@ -267,7 +267,7 @@ view-bytes (radial b r) = begun-bytes b (begun r) ∙ ap (λ (l : List ℕ). byt
 view-bytes (moment b r m) = begun-bytes b (headed r m) ∙ sym (append-assoc (bytesOfVolume (volumeOf b)) (bytesOfRadial r) (momentBytes m))
 view-bytes (volume v) = together (genericBytes (v .generic)) (siteBytes (v .site)) (taskBytes (v .task)) (run cutBytes (v .cuts)) (run (run bytesOfRadial) (v .layers))
 
-same-accepted : (a b : Accepted) → AcceptedOk a → AcceptedOk b → bytesOfAccepted a ≡ bytesOfAccepted b → a ≡ b
+pub same-accepted : (a b : Accepted) → AcceptedOk a → AcceptedOk b → bytesOfAccepted a ≡ bytesOfAccepted b → a ≡ b
 same-accepted a b ok ko e = sym (back a) ∙ ap accept (same-view (view a) (view b) (view-ok a ok) (view-ok b ko) (view-bytes a ∙ e ∙ sym (view-bytes b))) ∙ back b
 
 pub same-volume : (v u : Volume) → IsVolume v → IsVolume u → bytesOfVolume v ≡ bytesOfVolume u → v ≡ u

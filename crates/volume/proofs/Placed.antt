@@ -134,7 +134,7 @@ module _ (f : List ℕ) where
       )
 
   -- the cuts from number k on, as they stand in the file
-  abbrev CutsIn : ℕ → List Cut → Type 0
+  abbrev pub CutsIn : ℕ → List Cut → Type 0
   CutsIn k [] = Unit {0}
   CutsIn k (c ∷ cs) = (cutBlock f k ≡ c) × CutsIn (suc k) cs
 
@@ -170,7 +170,7 @@ module _ (f : List ℕ) where
   -- the blocks before the radials, as they stand in the file
   pub record Front (v : Volume) (rest : List ℕ) : Type 0 where
     pub task : taskBlock f ≡ v .task
-    cuts : CutsIn 1 (v .cuts)
+    pub cuts : CutsIn 1 (v .cuts)
     radials : At f (firstPlace v) (run (run bytesOfRadial) (v .layers) ++ rest)
 
   pub front : (v : Volume) (rest : List ℕ) → Headed v → bytesOfVolume v ++ rest ≡ f → Front v rest

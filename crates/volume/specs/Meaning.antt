@@ -1,4 +1,5 @@
--- What reading says of a volume's bytes, and which files are a volume's bytes (document 01, "What reading tells").
+-- What the plain reading says of a volume's bytes, and which files are a volume's bytes (document 01, "What reading tells"). It asks the
+-- blocks' own rules; what reading says, which asks for hope besides (document 02, #110), is in `hope/Meaning`.
 use Prim.Native.Nat.{ℕ, suc, _+_, _*_}
 use mathlib.Core.List.{List, [], _∷_, _++_}
 use mathlib.Core.Path.{_≡_}
@@ -74,9 +75,9 @@ pub record Accepts (f : List ℕ) : Type 0 where
   pub says : Says accepted rest verdict
   pub told : Told f accepted verdict
 
--- What reading means: a volume's bytes are read as that volume, a complete file is some volume's bytes, and only one's; what
+-- What the plain reading means: a volume's bytes are read as that volume, a complete file is some volume's bytes, and only one's; what
 -- accepted blocks and the bytes behind them say is told of their file; any file is such blocks and bytes, and only one way.
-pub record Means : Type 0 where
+pub record PlainMeans : Type 0 where
   pub reads : (v : Volume) → IsVolume v → Reads v
   pub holds : (f : List ℕ) → Bytes f → plainTold f ≡ 0 ∷ [] → Holds f
   pub once : (v u : Volume) → IsVolume v → IsVolume u → bytesOfVolume v ≡ bytesOfVolume u → v ≡ u
