@@ -21,7 +21,7 @@ use Rattle.reading.specs.Reading.{told, stop, stretches}
 use Rattle.volume.specs.Accepted.{Begun, BegunOk, dueRadial}
 use Rattle.volume.specs.Meaning.{volumeStretches, Holds}
 use Rattle.volume.specs.Volume.{Volume, IsVolume, bytesOfVolume}
-use Rattle.volume.proofs.Meaning.{means}
+use Rattle.hope.proofs.Meaning.{means}
 use Rattle.volume.proofs.Placed.{front}
 use Rattle.volume.proofs.Sense.{sense}
 use Rattle.volume.proofs.Tells.{same-number}

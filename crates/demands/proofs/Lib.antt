@@ -1,6 +1,7 @@
 pub mod Contents
 pub mod Cuts
 pub mod Floats
+pub mod Hopes
 pub mod One
 pub mod States
 pub mod Wedges

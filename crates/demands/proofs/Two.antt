@@ -16,12 +16,13 @@ use Rattle.gates.proofs.Gates.{classes-only, no-measurement, special-told, valu
 use Rattle.gates.proofs.Exact.{lossless}
 use Rattle.gates.proofs.Nearest.{hundredths-near}
 use Rattle.reading.proofs.Exactly.{told-exactly}
-use Rattle.volume.proofs.Meaning.{means}
-use Rattle.volume.proofs.Placed.{in-place}
+use Rattle.volume.proofs.Meaning.{plain-means}
 use Rattle.volume.proofs.Sense.{sense}
 use Rattle.ask.proofs.Counted.{counted}
 use Rattle.ask.proofs.Shown.{row-shown}
 use Rattle.ask.proofs.Sounding.{sound}
+use Rattle.hope.proofs.Meaning.{means}
+use Rattle.hope.proofs.Told.{in-place}
 use Rattle.index.proofs.Same.{right-only, right-when}
 use Rattle.writer.proofs.Again.{same-block}
 use Rattle.writer.proofs.Agreeing.{taken-when, keeps}
@@ -31,6 +32,7 @@ use Rattle.writer.proofs.Refusing.{same-place}
 use Rattle.writer.proofs.Runs.{run-back}
 use Rattle.demands.proofs.Cuts.{many-cuts-hold}
 use Rattle.demands.proofs.Floats.{floats}
+use Rattle.demands.proofs.Hopes.{hopes-hold}
 use Rattle.demands.proofs.States.{state-rule}
 use Rattle.demands.proofs.Wedges.{wedges-hold}
 use Rattle.demands.specs.Two.{RefusedExactly, WholeRadials, Codes, Trips, Writing, IndexRight, DemandTwo}
@@ -94,8 +96,9 @@ index-right = record { only = right-only; when = right-when }
 pub demand-two : DemandTwo
 demand-two =
     record {
-      volumes = record { means = means; sense = sense };
+      volumes = record { means = means; plain = plain-means; sense = sense };
       exactly = refused-exactly;
+      hopes = hopes-hold;
       states = state-rule;
       cuts = many-cuts-hold;
       floats = floats;

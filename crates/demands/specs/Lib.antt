@@ -1,4 +1,5 @@
 pub mod Floats
+pub mod Hopes
 pub mod Cuts
 pub mod Wedges
 pub mod One

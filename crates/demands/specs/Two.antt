@@ -35,7 +35,7 @@ use Rattle.walk.specs.declared.due.Walk.{Walk}
 use Rattle.reading.specs.Reading.{stop, stretches, bytesOf, told}
 use Rattle.reading.specs.Exactly.{ToldExactly}
 use Rattle.volume.specs.InPlace.{AllInPlace}
-use Rattle.volume.specs.Meaning.{Means}
+use Rattle.volume.specs.Meaning.{PlainMeans}
 use Rattle.volume.specs.Sense.{Sense}
 use Rattle.ask.specs.declared.places.Where.the-variants.{At}
 use Rattle.ask.specs.Answers.{RowTold}
@@ -45,27 +45,32 @@ use Rattle.ask.specs.Shown.{Shown}
 use Rattle.ask.specs.Sound.{Sound}
 use Rattle.index.specs.Answer.{rightFor}
 use Rattle.index.specs.Index.{indexOf}
+use Rattle.hope.specs.Meaning.{Means}
 use Rattle.writer.specs.Block.{Block}
 use Rattle.writer.specs.Trips.{Fits, TakenWhen, Keeps, CopyOf, SameBlock, Run, SameBlocks, SamePlace, ReadBack}
 use Rattle.demands.specs.Cuts.{Cuts}
 use Rattle.demands.specs.Floats.{Floats}
+use Rattle.demands.specs.Hopes.{Hopes}
 use Rattle.demands.specs.States.{StateRule}
 use Rattle.demands.specs.Wedges.{Wedges}
 
 -- What a volume is, `volume/Volume` says by the place of each block in the structure, with no word of how a file is read.
--- `Means` (`volume/Meaning`): a file is the bytes of a volume exactly when reading tells that it is complete (`reads`,
+-- `Means` (`hope/Meaning`): a file is the bytes of a volume exactly when reading tells that it is complete (`reads`,
 -- `holds`), and of one volume alone (`once`), whose radials, in order, are the whole ones of the file, with these places and
 -- cuts. Of any file, what is told is what its accepted blocks, as the beginning of a volume that they are, and the bytes
--- behind them say (`tells`, `accepts`), and these blocks are one alone (`one`).
+-- behind them say (`tells`, `accepts`), and these blocks are one alone (`one`). `PlainMeans` (`volume/Meaning`) is the same of the plain
+-- reading, which asks every rule but that of hope (document 02, #110).
 -- `Sense` (`volume/Sense`): what document 01 says of a volume in other words: the length of data is the sum of 32 plus length, a
 -- cut has two radials at least, no radial has one type twice
 pub record Volumes : Type 0 where
   pub means : Means
+  pub plain : PlainMeans
   pub sense : Sense
 
 -- a block is refused exactly when one of its rules does not hold, with the number and place of the first such rule; it is
 -- fine exactly when each of them holds. A file is refused exactly when that is so of the block that is due, or bytes follow
--- a complete volume; open exactly when that block is not all there, by what is missing of it
+-- a complete volume, or that block keeps its rules and no hope is left behind it (`Hopes`); open exactly when that block is not all
+-- there, by what is missing of it
 pub record RefusedExactly : Type 0 where
   pub fine : (rules : List Rule) → verdict rules ≡ Fine → Hold rules
   pub holds : (rules : List Rule) → Hold rules → verdict rules ≡ Fine
@@ -146,6 +151,8 @@ pub record IndexRight : Type 0 where
 pub record DemandTwo : Type 0 where
   pub volumes : Volumes
   pub exactly : RefusedExactly
+  -- open means hope (`Hopes`)
+  pub hopes : Hopes
   -- which states are allowed where, as a table (`States`)
   pub states : StateRule
   -- up to 256 cuts: how far the counts go, and the index in its two forms (`Cuts`)

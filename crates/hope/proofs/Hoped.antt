@@ -77,8 +77,7 @@ hoped-cut true f w e h masks =
     let few = h .few in
     let i = h .fresh .in-cut in
     let n = h .fresh .whole in
-    let q : suc (w .plan .cuts - w .rest .todo) ≡ w .plan .cuts = omega arith in
-    (
+    let q : suc (w .plan .cuts - w .rest .todo) ≡ w .plan .cuts = omega arith in (
       subst (Masks f 1) q masks,
       rw (eq-eqb (w .count .«in_cut») 0 i, lt-ltb (w .count .«in_cut») 1000 (omega arith)) (le-leb (w .count .whole + 2 + 2 * (w .plan .cuts - 1)) 65536 (omega arith)),
     )

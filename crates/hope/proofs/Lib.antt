@@ -6,3 +6,4 @@ pub mod Headers
 pub mod Onwards
 pub mod Told
 pub mod Meaning
+pub mod Files

@@ -47,7 +47,7 @@ use Rattle.hope.specs.Meaning.{ReadsVolume, Hopeful, HopeSays, plainly, 
 use Rattle.hope.proofs.Was.{AllNarrow}
 use Rattle.hope.proofs.Back.{complete-way, complete-told}
 use Rattle.hope.proofs.Made.{append-bytes, none-bytes}
-use Rattle.hope.proofs.Told.{same-radials, complete-plain, front-bytes, front-stops, accepted-hope, against, hope-told, begins, read-alike}
+use Rattle.hope.proofs.Told.{hope-shorter, same-radials, complete-plain, front-bytes, front-stops, accepted-hope, against, hope-told, begins, read-alike}
 
 -- ---- a volume's masks are numbers of 64 bits, whatever its data
 
@@ -72,15 +72,7 @@ reads-volume v is =
     let small = volume-narrow v is in
     record { complete = complete-told f small (r .complete); radials = same-radials f (complete-way f small (r .complete)) ∙ r .radials }
 
--- ---- what begins a volume has hope, and so does what begins it
-
-hope-shorter : (A : List ℕ) (n : ℕ) → Bytes A → n ≤ length A → Hope A → Hope (take n A)
-hope-shorter A n bs l h =
-    record {
-      more = drop n A ++ h .more;
-      bytes = append-bytes (drop n A) (h .more) (drop-bytes A n l bs) (h .bytes);
-      complete = ap plainTold (sym (append-assoc (take n A) (drop n A) (h .more)) ∙ ap (λ (l : List ℕ). l ++ h .more) (take-append-drop n A)) ∙ h .complete;
-    }
+-- ---- what says nothing of hope
 
 -- rules that hold have no first broken one
 held-first : {rs : List Rule} {n p : ℕ} → First rs n p → Hold rs → ⊥

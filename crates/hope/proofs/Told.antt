@@ -3,11 +3,12 @@ use Prim.Native.Nat.{ℕ, suc, _+_, _-_, _≤_, _<_}
 use native.Mathlib.Omega.{arith}
 use mathlib.Core.Path.{_≡_, refl, sym, ap, subst, subst⁻¹, _∙_}
 use mathlib.Core.Bool.{Bool, true, false}
-use mathlib.Core.List.{List, [], _∷_, _++_, append-nil}
+use mathlib.Core.List.{List, [], _∷_, _++_, append-assoc, append-nil}
 use mathlib.Core.Logic.{_↔_, _⊎_, inl, inr}
 use lib.ListN.{length, take, drop, length-append, take-append-drop}
 use lib.Seq.{take-take, take-add, length-take-le, take-append-le}
 use Rattle.le.specs.Le.{Bytes}
+use Rattle.le.proofs.Here.{drop-bytes}
 use Rattle.le.proofs.Laws.{middle-bytes}
 use Rattle.walk.specs.declared.due.Due.{Due}
 use Rattle.walk.specs.declared.due.Due.the-variants as due
@@ -186,10 +187,23 @@ module _ (f : List ℕ) where
       go (inl x) = sym (same-told (x .0)) ∙ e
       go (inr x) = let q = ap endingTold (x .0 .refused) in absurd (let z : _≡_ {A = ℕ} 0 1 = cc in omega arith)
 
+-- complete files are the same by both
+pub complete-both : (f : List ℕ) → Bytes f → (told f ≡ 0 ∷ []) ↔ (plainTold f ≡ 0 ∷ [])
+complete-both f bs = (complete-plain f, complete-told f (bytes-narrow f bs))
+
 -- ---- hope
 
 pub front-bytes : (n : ℕ) (f : List ℕ) → Bytes f → Bytes (take n f)
 front-bytes n f bs = middle-bytes n 0 f bs
+
+-- what begins a file with hope has hope
+pub hope-shorter : (A : List ℕ) (n : ℕ) → Bytes A → n ≤ length A → Hope A → Hope (take n A)
+hope-shorter A n bs l h =
+    record {
+      more = drop n A ++ h .more;
+      bytes = append-bytes (drop n A) (h .more) (drop-bytes A n l bs) (h .bytes);
+      complete = ap plainTold (sym (append-assoc (take n A) (drop n A) (h .more)) ∙ ap (λ (l : List ℕ). l ++ h .more) (take-append-drop n A)) ∙ h .complete;
+    }
 
 -- the accepted blocks up to any walk have hope
 pub reached-hope : (f : List ℕ) (w : Walk) → Bytes f → Reached f w → Hope (take (w .at) f)

@@ -127,8 +127,7 @@ was-radial f w m h e =
     let n = k .number in
     let s = k .sequence in
     let v = k .in-volume in
-    subst (λ (x : Walk). Was (x .due) f x) (settle-took _ _ _ m e)
-    (
+    subst (λ (x : Walk). Was (x .due) f x) (settle-took _ _ _ m e) (
       record {
         stands = record { first = a; last = b; few = h .few; place = omega arith; narrow = h .narrow };
         mask = ap (λ (l : List ℕ). cutOf l .«moments_mask») (part-take 256 f (cutPlace (w .count .cut)) (w .at + 64) (omega arith));

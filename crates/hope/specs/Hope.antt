@@ -13,6 +13,9 @@ use Rattle.reading.specs.declared.step.Step.the-variants.{Took, Refused}
 use Rattle.reading.specs.Step.{hopeAt, plainStep, stepOf}
 use Rattle.reading.specs.Reading.{plainStop, plainStretches, plainTold, stop, stretches, told}
 use Rattle.volume.specs.Volume.{Volume, IsVolume, bytesOfVolume}
+use Rattle.writer.specs.Agree.{written, Agrees}
+use Rattle.writer.specs.Block.{Block, kindOf, bytesOf}
+use Rattle.writer.specs.Trips.{Fits}
 
 -- ---- what it is
 
@@ -46,6 +49,11 @@ pub record Tested (f : List ℕ) (w m : Walk) : Type 0 where
 
 -- ---- files
 
+-- a file is told open
+pub record Open (f : List ℕ) : Type 0 where
+  pub missing : ℕ
+  pub told : told f ≡ 1 ∷ missing ∷ []
+
 -- hope ended at the block behind the accepted ones: the plain reading takes it, and no hope is left behind it
 pub record Lost (f : List ℕ) : Type 0 where
   pub next : Walk
@@ -62,3 +70,15 @@ pub data Against (f : List ℕ) : Type 0 where
 pub record ReadAlike (f : List ℕ) : Type 0 where
   pub stops : plainStop (take (stop f .at) f) ≡ stop f
   pub radials : plainStretches (take (stop f .at) f) ≡ stretches f
+
+-- ---- the writer
+
+-- a block offered to the writer where it is due: the table's checks take it, and no hope is left behind it
+pub record EndsHope (b : Block) (w : Walk) (room : List ℕ) : Type 0 where
+  pub fits : Fits b
+  pub bytes : Bytes (written w room ++ bytesOf b)
+  pub agree : Agrees w room
+  pub due : w .due ≡ kindOf b
+  pub next : Walk
+  pub taken : plainStep (written w room ++ bytesOf b) w ≡ Took next
+  pub none : Hope (take (next .at) (written w room ++ bytesOf b)) → ⊥

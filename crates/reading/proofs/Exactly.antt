@@ -105,7 +105,7 @@ pub record Settled (d : Due) (f : List ℕ) (w : Walk) : Type 0 where
 there : (n : ℕ) (f : List ℕ) (w : Walk) → part n (take (w .at + n) f) (w .at) ≡ part n f (w .at)
 there n f w = part-take n f (w .at) (w .at + n) (omega arith)
 
-settled : (d : Due) (f : List ℕ) (w : Walk) → isEnd d ≡ false → Settled d f w
+pub settled : (d : Due) (f : List ℕ) (w : Walk) → isEnd d ≡ false → Settled d f w
 unfolding blockAt takeData genericAt siteAt taskAt cutAt radialAt momentAt rulesOf sizeAt isEnd
 settled due.Generic f w i = record { next = _; is = settles-generic _ w _ (ap genericOf (there 32 f w)) }
 settled due.Site f w i = record { next = _; is = settles-site _ w _ (ap siteOf (there 128 f w)) }
@@ -143,7 +143,7 @@ pub data Refuses (f : List ℕ) (w : Walk) : ℕ → ℕ → Type 0 where
   by-end : isEnd (w .due) ≡ true → w .at < length f → Refuses f w 25 (w .at)
   by-hope : isEnd (w .due) ≡ false → w .at + sizeOf w ≤ length f → Hold (rulesOf (w .due) f w) → hopeAt (w .due) (take (w .at + sizeOf w) f) w ≡ false → Refuses f w 40 (w .at)
 
-settle-refused : (v : Check) (at : ℕ) (m : Walk) (n p : ℕ) → settle v at m ≡ Refused n p → (q : ℕ) × (v ≡ Broken n q) × (p ≡ at + q)
+pub settle-refused : (v : Check) (at : ℕ) (m : Walk) (n p : ℕ) → settle v at m ≡ Refused n p → (q : ℕ) × (v ≡ Broken n q) × (p ≡ at + q)
 unfolding settle
 settle-refused Fine at m n p e = absurd (let z : _≡_ {A = ℕ} 0 1 = cc in omega arith)
 settle-refused (Broken a b) at m n p e = (b, let k : a ≡ n = cc in rw k, cc)
