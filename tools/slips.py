@@ -163,6 +163,44 @@ SLIPS = {
         ('crates/ask/src/tallies.rt', 'Radial::SPOT_BLANK) == 1', 'Radial::SPOT_BLANK) == 0'),
         ('crates/ask/proofs/Tallying.antt', '«spot_blank») 1)', '«spot_blank») 0)'),
     ],
+    # hope of a cut by its size mask (document 02, #110)
+    'hope_by_size_mask': [
+        ('crates/reading/specs/Step.antt', 'hopeAfterCut r = ltb 0 (r .«moments_mask»)', 'hopeAfterCut r = ltb 0 (r .«size_mask»)'),
+        ('crates/reading/src/step.rt', '0 < r.moments_mask', '0 < r.size_mask'),
+    ],
+    # 40 told at the file's first byte (document 02, #110)
+    'forty_at_zero': [
+        ('crates/reading/specs/Step.antt', 'hoping false at (Took n) = Refused 40 at', 'hoping false at (Took n) = Refused 40 0'),
+        ('crates/reading/src/step.rt', 'Step::Refused(40, at)', 'Step::Refused(40, 0)'),
+        ('crates/reading/proofs/Run.antt', 'hoping h at s ≡ Refused 40 at →', 'hoping h at s ≡ Refused 40 0 →'),
+        ('crates/reading/proofs/Run.antt', '(took m e) = refused 40 at (', '(took m e) = refused 40 0 ('),
+        ('crates/reading/proofs/Exactly.antt', '→ Refuses f w 40 (w .at)', '→ Refuses f w 40 0'),
+        ('crates/reading/proofs/Exactly.antt', 'refused-same 40 (w .at) n p', 'refused-same 40 0 n p'),
+        ('crates/reading/specs/Exactly.antt', 'IsRefused f 40 (stop f .at)', 'IsRefused f 40 0'),
+    ],
+    # the types that a radial has shown counted again (document 02, #110)
+    'seen_counted_again': [
+        ('crates/walk/specs/Hope.antt', '(w .present .sizes) (w .rest .seen)', '(w .present .sizes) 0'),
+        ('crates/walk/src/hope.rt', 'w.rest.seen,', '0,'),
+    ],
+    # one radial for each later cut (document 02, #110)
+    'one_radial_for_a_cut': [
+        ('crates/coming/specs/Radials.antt', '2 * (cuts - cut)', '1 * (cuts - cut)'),
+        ('crates/coming/src/lib.rt', '65536 - 2 * later', '65536 - 1 * later'),
+        ('crates/coming/proofs/Radials.antt', '2 * (cuts - cut)', '1 * (cuts - cut)'),
+    ],
+    # a full cut let open (document 02, #110)
+    'full_cut_let_open': [
+        ('crates/coming/specs/Radials.antt', 'ltb inCut mostRadials', 'leb inCut mostRadials'),
+        ('crates/coming/specs/Radials.antt', 'ltb number mostRadials', 'leb number mostRadials'),
+        ('crates/coming/src/lib.rt', 'if number < 1000', 'if number <= 1000'),
+        ('crates/coming/proofs/Radials.antt', 'number < 1000 →', 'number ≤ 1000 →'),
+        ('crates/coming/proofs/Radials.antt', 'rw (lt-ltb number 1000 l)', 'rw (le-leb number 1000 l)'),
+        ('crates/coming/proofs/Radials.antt', 'full : 1000 ≤ number', 'full : 1000 < number'),
+        ('crates/coming/proofs/Radials.antt', 'rw (le-ltb number 1000 h)', 'rw (lt-leb number 1000 h)'),
+        ('crates/coming/proofs/Radials.antt', 'rw (lt-leb (sequence + 1 + 2 * (cuts - cut)) 65536 (omega arith)) (sym (and-false (ltb number 1000)))',
+         'rw (lt-leb (sequence + 1 + 2 * (cuts - cut)) 65536 (omega arith)) (sym (and-false (leb number 1000)))'),
+    ],
     # the types seen not cleared at a new radial (number 20)
     'seen_not_cleared': [
         ('crates/walk/specs/After.antt', 'left = r .«length_of_data»; seen = 0;', 'left = r .«length_of_data»; seen = w .rest .seen;'),
