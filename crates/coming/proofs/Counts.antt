@@ -2,11 +2,11 @@
 use mathlib.Core.Path.{_≡_, refl, sym, ap, ap₂, _∙_, fun-ext}
 use mathlib.Core.Bool.{Bool, true, false, not, _&&_, _||_}
 use Prim.Native.Nat.{ℕ, zero, suc, _+_, _-_, _*_, _/_, _%_, _^_, _≤_, _<_, min, max}
-use native.Mathlib.Nat.{div-one, div-eq-of-lt, div-self, mul-div-cancel, mod-lt, suc-add}
+use native.Mathlib.Nat.{div-one, div-eq-of-lt, div-self, mul-div-cancel, mod-lt, suc-add, lt-of-le-of-lt}
 use native.Mathlib.Decide.{decLt}
 use native.Mathlib.Omega.{arith}
 use mathlib.Core.Logic.{dite}
-use lib.Bits.{bitAnd, bitOr, bitXor, differ, and-step, or-step, xor-step, and-shr, or-shr, xor-shr}
+use lib.Bits.{bitAnd, bitOr, bitXor, differ, and-step, or-step, xor-step, and-le-l, and-shr, or-shr, xor-shr}
 use lib.Count.{ones, ones-step, ones-le}
 use lib.Dec.{eqb}
 use lib.Pow.{pow-pos, pow-lt, pow-add, shr-shr}
@@ -131,3 +131,23 @@ digit-other i j h =
   where
     go : (u v : ℕ) → u ≡ 2 * v → u % 2 ≡ 1 → ⊥
     go u v e z = omega arith
+
+-- ---- the digits that another number has and those that it lacks are all the digits
+count-parts : (f g h : ℕ → Bool) (n : ℕ) → ((j : ℕ) → one (f j) ≡ one (g j) + one (h j)) → count f n ≡ count g n + count h n
+unfolding count
+count-parts f g h zero e = refl
+count-parts f g h (suc n) e =
+    let r = count-parts (λ j. f (suc j)) (λ j. g (suc j)) (λ j. h (suc j)) n (λ j. e (suc j)) in
+    let z = e 0 in omega arith
+
+parts : (a b : Bool) → one a ≡ one (a && not b) + one (a && b)
+parts true true = refl
+parts true false = refl
+parts false true = refl
+parts false false = refl
+
+pub ones-parts : (x y : ℕ) → x < 2 ^ 64 → ones x ≡ ones (lacks x y) + ones (bitAnd x y)
+ones-parts x y h =
+    ones-count 64 x h
+    ∙ count-parts (digit x) (digit (lacks x y)) (digit (bitAnd x y)) 64 (λ j. parts (digit x j) (digit y j) ∙ ap₂ (λ (a b : Bool). one a + one b) (sym (digit-lacks x y j)) (sym (digit-and x y j)))
+    ∙ ap₂ (λ (a b : ℕ). a + b) (sym (ones-count 64 (lacks x y) (lt-of-le-of-lt (and-le-l x _) h))) (sym (ones-count 64 (bitAnd x y) (lt-of-le-of-lt (and-le-l x _) h)))

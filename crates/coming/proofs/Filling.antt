@@ -52,6 +52,11 @@ pub no-single : (n2 k r : ℕ) → k ≤ n2 → r ≤ 32768 * k → 2 * k ≤ r 
 unfolding canFill
 no-single n2 k r a b c = rw (le-leb k (0 + n2) (omega arith), le-leb r (32768 * k) b, le-leb (2 * k) r c)
 
+pub tight : (n1 n2 k r : ℕ) → k ≤ n1 + n2 → r ≤ 32768 * k → k ≤ r → r < 2 * k → leb (k - n1) (r - k) ≡ canFill n1 n2 k r
+tight n1 n2 k r a b c d =
+    dite (decLt (r - k) (k - n1)) (λ h. lt-leb (k - n1) (r - k) h ∙ no-fit n1 n2 k r (λ f. omega (arith, f .least)))
+    (λ h. le-leb (k - n1) (r - k) (omega arith) ∙ yes n1 n2 k r (record { few = a; most = b; least = omega arith; even = λ z. absurd (omega arith) }))
+
 pub level : (k r : ℕ) → k ≡ r / 32768 → eqb (r % 32768) 0 ≡ leb r (32768 * k)
 level k r e =
     dite (decLt 0 (r % 32768)) (λ h. ne-eqb (r % 32768) 0 (λ z. omega arith) ∙ sym (lt-leb r (32768 * k) (omega arith)))

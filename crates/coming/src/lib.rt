@@ -1,7 +1,7 @@
 // Whether what a volume still has to have can come (document 02, #110): the moments of a radial, and the radials after it. No sum
 // and no product here can wrap, whatever the arguments.
 ghost use mathlib.Core.Path.{_≡_};
-ghost use Prim.Native.Nat.{_-_, _*_};
+ghost use Prim.Native.Nat.{_-_, _*_, _≤_};
 ghost use lib.Count.{ones};
 ghost use lib.Dec.{leb};
 ghost use Rattle.coming.specs.Moments.{lacks as lacksOf, canFill, fills as fillsOf, momentsCan};
@@ -42,26 +42,26 @@ fn holds(k: usize, r: usize) -> bool
     r % 32768 == 0
 }
 
-// k moments, of n1 types of one byte a gate and n2 types of two, can have r bytes of data.
-fn can_fill(n1: usize, n2: usize, k: usize, r: usize) -> bool
-    ensures { λ x. ⌜ x ≡ canFill n1 n2 k r ⌝ }
+// k moments, of n types, n1 of them of one byte a gate and the others of two, can have r bytes of data.
+fn can_fill(n: usize, n1: usize, k: usize, r: usize) -> bool
+    requires { ⌜ n1 ≤ n ⌝ }
+    ensures { λ x. ⌜ x ≡ canFill n1 (n - n1) k r ⌝ }
 {
-    // those of two bytes a gate, at the least
-    let more = less(k, n1);
-    if n2 < more {
+    if n < k {
         return false;
     }
     if holds(k, r) {
+        // two bytes for each are enough, whatever their types
+        if k <= r / 2 {
+            if n1 == 0 {
+                return r % 2 == 0;
+            }
+            return true;
+        }
         if r < k {
             return false;
         }
-        if r - k < more {
-            return false;
-        }
-        if n1 == 0 {
-            return r % 2 == 0;
-        }
-        return true;
+        return less(k, n1) <= r - k;
     }
     false
 }
@@ -72,9 +72,9 @@ fn fills(mask: u64, sizes: u64, seen: u64, todo: usize, rest: usize) -> bool
 {
     let free = lacks(mask, seen);
     let one = lacks(free, sizes);
+    let n = ones_of(free);
     let n1 = ones_of(one);
-    let n2 = ones_of(free & sizes);
-    can_fill(n1, n2, todo, rest)
+    can_fill(n, n1, todo, rest)
 }
 
 // The same with their headers, 32 bytes each, in what is left of the radial's data.

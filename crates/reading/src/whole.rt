@@ -1,7 +1,8 @@
 // A radial in one go: from where its header is due on to where it is whole, or where the walk stops. A step here is that of
 // `step_at` for the one block that is due, written a second time. Each function but the last has one caller, so that they
 // all become one loop, which keeps the walk in registers; a step with a second caller is not inlined, at each block the
-// walk goes through memory, and reading takes twice as long. Whoever else wants a step calls `step_at`.
+// walk goes through memory, and reading takes twice as long. Whoever else wants a step calls `step_at`. Hope is asked only where a
+// block is taken: asked ahead of that, its numbers are carried through both ways, and each header takes longer.
 ghost use mathlib.Core.Path.{_≡_};
 ghost use Prim.Native.Nat.{_≤_};
 ghost use lib.ListN.{length};
@@ -40,6 +41,9 @@ fn radial_step(file: &[u8], w: Walk) -> Step
     let sizes = le::u64_at(p, place + Cut::SIZE_MASK);
     let next = after::radial(r, mask, sizes, w, end);
     let says = settle(r.check(w.radial_due()), at, next);
+    let Step::Took(_) = says else {
+        return says;
+    };
     hoping(hope::radial(next), at, says)
 }
 
@@ -58,6 +62,9 @@ fn moment_step(file: &[u8], w: Walk) -> Step
     let r = Moment::read(&file[..end], at);
     let next = after::moment(r, w, end);
     let says = settle(r.check(w.moment_due()), at, next);
+    let Step::Took(_) = says else {
+        return says;
+    };
     hoping(hope::moments(next), at, says)
 }
 

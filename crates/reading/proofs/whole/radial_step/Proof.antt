@@ -4,13 +4,15 @@ use native.Mathlib.Omega.{arith}
 use borrow.Author.Needs.{needs}
 use lib.ListN.{take}
 use lib.Seq.{length-take-le}
+use Rattle.le.specs.Le.{le}
 use Rattle.radial.specs.Radial.{radialAt}
 use Rattle.walk.specs.declared.due.Due.the-variants as due
-use Rattle.walk.specs.Due.{sizeAt, isEnd}
+use Rattle.walk.specs.Due.{sizeAt, isEnd, cutPlace}
 use Rattle.reading.specs.declared.step.Step.the-variants.{Open}
-use Rattle.reading.specs.Step.{blockAt, hopeAt}
+use Rattle.reading.specs.Step.{blockAt, hopeByMasks, hopeAt}
 use Rattle.reading.proofs.Masks.{by-masks}
-use Rattle.reading.proofs.Known.{known-here, known-short}
+use Rattle.reading.proofs.Run.{untaken}
+use Rattle.reading.proofs.Known.{not-took, known-here, known-short}
 use Rattle.reading.proofs.whole.radial_step.Statement.{statement}
 use Rattle.reading.proofs.whole.radial_step.Tie as tie
 
@@ -33,26 +35,50 @@ settle-requires c κs =
 returns-2 : tie.Need-returns-2
 unfolding sizeAt isEnd blockAt hopeAt
 returns-2 c =
-    let s = c .before .before .before .before .before .before .before .before .before .before .before .before .before in
+    let d = c .before in
+    let e = d .before .before .before .before .before .before .before .before .before in
+    let s = e .before .before in
+    let f = s .args .file .now in
+    let w = s .args .w in
+    let p = take (w .at + 64) f in
+    sym (untaken (hopeByMasks (radialAt p (w .at)) (le 8 p (cutPlace (w .count .cut) + 84)) (le 8 p (cutPlace (w .count .cut) + 92)) w) (w .at) (d .settle .result) (not-took _ (c .match .keys2)))
+    ∙ rw (
+      d .settle .ensures,
+      d .before .check .ensures,
+      d .before .before .radial-due .ensures,
+      d .before .before .before .radial .ensures,
+      d .before .before .before .before .u64-at2 .ensures,
+      d .before .before .before .before .before .u64-at .ensures,
+      d .before .before .before .before .before .before .cut-place .ensures,
+      d .before .before .before .before .before .before .before .read .ensures,
+    )
+    (by-masks p w (radialAt p (w .at)) ∙ sym (known-here f w due.Radial (s .pre .1) refl (omega (arith, s .pre .0, e .if1 .left))))
+
+returns-3 : tie.Need-returns-3
+unfolding sizeAt isEnd blockAt hopeAt
+returns-3 c =
+    let d = c .before .before .before .before in
+    let e = d .before .before .before .before .before .before .before .before .before in
+    let s = e .before .before in
     let f = s .args .file .now in
     let w = s .args .w in
     let p = take (w .at + 64) f in
     rw (
       c .hoping .ensures,
       c .before .radial2 .ensures,
-      c .before .before .settle .ensures,
-      c .before .before .before .check .ensures,
-      c .before .before .before .before .radial-due .ensures,
-      c .before .before .before .before .before .radial .ensures,
-      c .before .before .before .before .before .before .u64-at2 .ensures,
-      c .before .before .before .before .before .before .before .u64-at .ensures,
-      c .before .before .before .before .before .before .before .before .cut-place .ensures,
-      c .before .before .before .before .before .before .before .before .before .read .ensures,
+      d .settle .ensures,
+      d .before .check .ensures,
+      d .before .before .radial-due .ensures,
+      d .before .before .before .radial .ensures,
+      d .before .before .before .before .u64-at2 .ensures,
+      d .before .before .before .before .before .u64-at .ensures,
+      d .before .before .before .before .before .before .cut-place .ensures,
+      d .before .before .before .before .before .before .before .read .ensures,
     )
-    (by-masks p w (radialAt p (w .at)) ∙ sym (known-here f w due.Radial (s .pre .1) refl (omega (arith, s .pre .0, c .before .before .before .before .before .before .before .before .before .before .before .if1 .left))))
+    (by-masks p w (radialAt p (w .at)) ∙ sym (known-here f w due.Radial (s .pre .1) refl (omega (arith, s .pre .0, e .if1 .left))))
 
 pub radial-step-spec : {M : Type 1} → statement M
 radial-step-spec =
     tie.close
     (tie.spec (λ c. search needs) (λ c. search needs) returns (λ c. search needs) slice-aggregate-p (λ c κs. search needs) (λ c κs. search needs) (λ c. search needs) (λ c κs. search needs)
-    (λ c. search needs) (λ c κs. search needs) (λ c κs. search needs) (λ c κs. search needs) (λ c κs. search needs) settle-requires (λ c κs. search needs) (λ c κs. search needs) returns-2)
+    (λ c. search needs) (λ c κs. search needs) (λ c κs. search needs) (λ c κs. search needs) (λ c κs. search needs) settle-requires (λ c. search needs) returns-2 (λ c κs. search needs) (λ c κs. search needs) returns-3)
