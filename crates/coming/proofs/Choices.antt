@@ -1,23 +1,22 @@
 -- The test answers yes exactly where a choice exists, and the two steps that a walk needs. Assumes nothing.
-use mathlib.Core.Path.{_≡_, refl, sym, ap, ap₂, _∙_, subst}
-use mathlib.Core.Bool.{Bool, true, false, not, _&&_, _||_, cond, and-false}
+use mathlib.Core.Path.{_≡_, refl, sym, ap, _∙_, subst}
+use mathlib.Core.Bool.{Bool, true, false, not, _&&_, _||_, and-false, or-false, or-true}
 use mathlib.Core.List.{List, [], _∷_}
 use mathlib.Core.Logic.{dite, _↔_}
-use Prim.Native.Nat.{ℕ, zero, suc, _+_, _-_, _*_, _/_, _%_, _^_, _≤_, _<_}
+use Prim.Native.Nat.{ℕ, zero, suc, _+_, _-_, _*_, _^_, _≤_, _<_}
 use native.Mathlib.Decide.{decLt, ℕ-discrete}
 use native.Mathlib.Nat.{le-trans, lt-of-le-of-lt}
 use native.Mathlib.Omega.{arith}
-use lib.Bits.{bitAnd, bitOr, and-le-l}
-use lib.Count.{ones}
-use lib.Dec.{eqb, leb}
+use lib.Bits.{bitAnd, and-le-l}
+use lib.Dec.{leb}
 use lib.ListN.{length}
-use borrow.Author.Tests.{le-leb, leb-true}
+use borrow.Author.Tests.{le-leb, leb-true, not-true}
 use Rattle.le.proofs.Tests.{both}
 use Rattle.rules.specs.Ranges.{within}
 use Rattle.rules.specs.Masks.{bit, withBit}
-use Rattle.coming.specs.Moments.{Piece, Comes, Each, Without, Distinct, total, Choice, lacks, singles, doubles, canFill, fills, momentsCan}
+use Rattle.coming.specs.Moments.{Piece, Comes, Each, Without, Distinct, total, Choice, lacks, singles, doubles, fills, momentsCan}
 use Rattle.coming.proofs.Counts.{count, count-same, count-less, count-find, digit, ones-count, digit-and, digit-or, digit-lacks, digit-same, digit-other}
-use Rattle.coming.proofs.Filling.{Fits, fits-of, of-fits, back-single, back-double, Length, on-single, Even, on-double}
+use Rattle.coming.proofs.Filling.{Fits, fits-of, of-fits, back-single, back-double, on-single, on-double}
 
 -- ---- a type is a place
 range : (t : ℕ) → 1 ≤ t → t ≤ 64 → within 1 64 t ≡ true
@@ -35,19 +34,11 @@ bit-range x t e =
     let b = both (leb 1 t) _ (a .0) in
     (leb-true 1 t (b .0), leb-true t 64 (b .1))
 
--- out of the range no mask has it
+-- a mask with a type's bit set
 module _ (t : ℕ) (a : 1 ≤ t) (b : t ≤ 64) where
   digit-with : (seen j : ℕ) → digit (withBit seen t) j ≡ (digit seen j || digit (2 ^ (t - 1)) j)
   unfolding withBit
   digit-with seen j = rw (range t a b) (digit-or seen (2 ^ (t - 1)) j)
-
-  or-false : (x : Bool) → (x || false) ≡ x
-  or-false true = refl
-  or-false false = refl
-
-  or-true : (x : Bool) → (x || true) ≡ true
-  or-true true = refl
-  or-true false = refl
 
   with-same : (seen : ℕ) → digit (withBit seen t) (t - 1) ≡ true
   with-same seen = digit-with seen (t - 1) ∙ rw (digit-same (t - 1)) (or-true (digit seen (t - 1)))
@@ -143,10 +134,6 @@ module _ (mask sizes seen t : ℕ) (small : mask < 2 ^ 64) (m : bit mask t ≡ t
 abbrev Free : ℕ → ℕ → ℕ → Bool → Type 0
 Free mask sizes seen b = (t : ℕ) × (bit mask t ≡ true) × (bit seen t ≡ false) × (bit sizes t ≡ b)
 
-not-true : (x : Bool) → not x ≡ true → x ≡ false
-not-true true e = sym e
-not-true false e = refl
-
 pub at-place : (x i : ℕ) → i < 64 → bit x (suc i) ≡ digit x i
 at-place x i h = bit-is x (suc i) (omega arith) (omega arith) ∙ ap (digit x) (omega arith)
 
@@ -167,7 +154,7 @@ module _ (mask sizes seen : ℕ) (small : mask < 2 ^ 64) where
   find-double p = found true (λ j. digit sizes j) (λ i e. e) (rw (doubles-count mask sizes seen small) at p)
 
 -- ---- the two steps
--- backwards: whatever moment comes, fills after it is fills before it
+-- backwards: whatever moment comes, what can be filled behind it can be filled with it
 pub back : (mask sizes seen k r : ℕ) (p : Piece) → mask < 2 ^ 64 → Comes mask sizes seen p
     → Fits (singles mask sizes (withBit seen (p .kind))) (doubles mask sizes (withBit seen (p .kind))) k r
     → Fits (singles mask sizes seen) (doubles mask sizes seen) (suc k) (p .size + r)
@@ -181,7 +168,7 @@ back mask sizes seen k r p small c f = go (bit sizes (p .kind)) refl
         rw (single-spent mask sizes seen (p .kind) small (c .has) (c .new) e, double-kept mask sizes seen (p .kind) small (c .has) (c .new) e)
         (back-single _ _ k r (p .size) (c .least) (c .most) f)
 
--- onwards: where there is fills and a moment is due, there is one that keeps it
+-- onwards: where the rest can be filled and a moment is due, there is one behind which it still can
 pub record Next (mask sizes seen k r : ℕ) : Type 0 where
   pub piece : Piece
   pub comes : Comes mask sizes seen piece
@@ -268,7 +255,7 @@ module _ (mask sizes : ℕ) (small : mask < 2 ^ 64) where
         fills = omega (arith, c .fills, n .within);
       }
 
-  -- THE THEOREM: the test answers yes exactly where a choice exists
+  -- the theorem: the test answers yes exactly where a choice exists
   pub fills-is : (seen todo rest : ℕ) → (fills mask sizes seen todo rest ≡ true) ↔ Choice mask sizes seen todo rest
   unfolding fills
   fills-is seen todo rest = (
@@ -280,7 +267,7 @@ module _ (mask sizes : ℕ) (small : mask < 2 ^ 64) where
 
 -- ---- the two steps of a walk, on the test itself and over what is left of a radial's data
 module _ (mask sizes seen : ℕ) (small : mask < 2 ^ 64) where
-  -- backwards: whatever moment is taken, fills after it is fills before it
+  -- backwards
   pub fills-back : (todo rest : ℕ) (p : Piece) → Comes mask sizes seen p → fills mask sizes (withBit seen (p .kind)) todo rest ≡ true
       → fills mask sizes seen (suc todo) (p .size + rest) ≡ true
   unfolding fills
@@ -295,7 +282,7 @@ module _ (mask sizes seen : ℕ) (small : mask < 2 ^ 64) where
       let n : 32 + p .size + left - 32 * suc todo ≡ p .size + (left - 32 * todo) = omega arith in
       rw (le-leb (32 * suc todo) (32 + p .size + left) (omega arith), n) (fills-back todo (left - 32 * todo) p c (a .1))
 
-  -- onwards: where there is fills and a moment is due, there is one that the table takes and that keeps it
+  -- onwards
   pub record Onward (todo rest : ℕ) : Type 0 where
     pub piece : Piece
     pub comes : Comes mask sizes seen piece
@@ -328,8 +315,3 @@ module _ (mask sizes seen : ℕ) (small : mask < 2 ^ 64) where
         within = omega arith;
         still = rw (le-leb (32 * todo) (left - (32 + n .piece .size)) (omega arith), m) (n .still);
       }
-
-  -- with none to come, nothing is left
-  pub fills-end : (rest : ℕ) → fills mask sizes seen 0 rest ≡ true → rest ≡ 0
-  unfolding fills
-  fills-end rest e = let f = fits-of _ _ _ _ e in omega (arith, f .most)

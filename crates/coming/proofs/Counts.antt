@@ -1,8 +1,8 @@
 -- Counting the set digits of a word by a test on places: what a place more or less does to the count. Assumes nothing.
 use mathlib.Core.Path.{_≡_, refl, sym, ap, ap₂, _∙_, fun-ext}
 use mathlib.Core.Bool.{Bool, true, false, not, _&&_, _||_}
-use Prim.Native.Nat.{ℕ, zero, suc, _+_, _-_, _*_, _/_, _%_, _^_, _≤_, _<_, min, max}
-use native.Mathlib.Nat.{div-one, div-eq-of-lt, div-self, mul-div-cancel, mod-lt, suc-add, lt-of-le-of-lt}
+use Prim.Native.Nat.{ℕ, zero, suc, _+_, _-_, _*_, _/_, _%_, _^_, _<_, min, max}
+use native.Mathlib.Nat.{div-one, div-eq-of-lt, div-self, mul-div-cancel, lt-of-le-of-lt}
 use native.Mathlib.Decide.{decLt}
 use native.Mathlib.Omega.{arith}
 use mathlib.Core.Logic.{dite}
@@ -10,7 +10,7 @@ use lib.Bits.{bitAnd, bitOr, bitXor, differ, and-step, or-step, xor-step, and-le
 use lib.Count.{ones, ones-step, ones-le}
 use lib.Dec.{eqb}
 use lib.Pow.{pow-pos, pow-lt, pow-add, shr-shr}
-use borrow.Author.Tests.{eq-eqb, ne-eqb}
+use borrow.Author.Tests.{ne-eqb}
 use Rattle.coming.specs.Moments.{lacks}
 
 -- ---- counting the places below n that a test takes

@@ -1,7 +1,7 @@
 -- The numbers to try, by computing the test: each cause from both sides of its boundary.
 use mathlib.Core.Path.{_≡_, refl}
-use mathlib.Core.Bool.{Bool, true, false}
-use mathlib.Core.List.{List, [], _∷_, map}
+use mathlib.Core.Bool.{true, false}
+use mathlib.Core.List.{[], _∷_, map}
 use Prim.Native.Nat.{ℕ}
 use lib.Count.{ones}
 use Rattle.coming.specs.Moments.{fills, canFill, singles, doubles}

@@ -1,7 +1,7 @@
 -- The steps in the table's own words: number 20 (`typeOk`), 23 (`binLengthOk`) and 24 (`lengthOk`), over what a radial's data has left. Assumes nothing.
 use mathlib.Core.Path.{_≡_, refl, sym, ap, _∙_, subst}
 use mathlib.Core.Bool.{Bool, true, false, not, _&&_, cond}
-use mathlib.Core.List.{List, [], _∷_}
+use mathlib.Core.List.{[], _∷_}
 use mathlib.Core.Logic.{dite}
 use Prim.Native.Nat.{ℕ, zero, suc, _+_, _-_, _*_, _/_, _%_, _^_, _≤_, _<_}
 use native.Mathlib.Decide.{decLt}
@@ -13,7 +13,6 @@ use lib.Dec.{eqb, leb, lit<}
 use lib.IntN.{pos}
 use lib.Pow.{pow-pos}
 use mir.Syntax.{w16, w32}
-use mir.Val.{toZ}
 use borrow.Author.Tests.{le-leb, lt-leb, leb-true, eqb-true, eq-eqb, not-true}
 use Rattle.le.specs.Le.{int, short}
 use Rattle.le.proofs.Tests.{both, fails}
@@ -21,10 +20,10 @@ use Rattle.rules.specs.Ranges.{among, within}
 use Rattle.rules.specs.Masks.{bit, withBit, typeOk, binLengthOk}
 use Rattle.rules.specs.Tiling.{tiles, lengthOk}
 use Rattle.rules.proofs.Numbers.{by-bits, in-range, exactly}
-use Rattle.coming.specs.Moments.{Piece, Comes, Each, Distinct, Choice, fills, momentsCan, singles, doubles}
+use Rattle.coming.specs.Moments.{Comes, fills, momentsCan, singles, doubles}
 use Rattle.coming.proofs.Counts.{count, count-find, digit, ones-count}
-use Rattle.coming.proofs.Filling.{Fits, fits-of, of-fits}
-use Rattle.coming.proofs.Choices.{fills-is, can-back, OnwardLeft, can-on, fills-end, bit-range, at-place}
+use Rattle.coming.proofs.Filling.{fits-of}
+use Rattle.coming.proofs.Choices.{fills-is, can-back, can-on, bit-range, at-place}
 
 -- ---- a range that has no sign
 range-of : (lo hi x : ℕ) → within lo hi x ≡ true → (lo ≤ x) × (x ≤ hi)
@@ -97,7 +96,7 @@ tiled (suc todo) left n a b =
     let m : suc (suc todo) - 1 ≡ suc todo = omega arith in
     rw (lt-leb (suc (suc todo)) 1 (omega arith), m) (le-leb (32 + n + 33 * suc todo) left b)
 
--- ---- backwards along a moment header: its header and data come off what is left, and fills after it is fills before it
+-- ---- backwards along a moment header: its header and data come off what is left, and what can come behind it can come with it
 pub step-back : (mask sizes seen t bin todo left n : ℕ) → mask < 2 ^ 64
     → typeOk mask seen t ≡ true → binLengthOk sizes t bin ≡ true → lengthOk (suc todo) left bin n ≡ true
     → momentsCan mask sizes (withBit seen t) todo (left - (32 + n)) ≡ true → momentsCan mask sizes seen (suc todo) left ≡ true
@@ -107,7 +106,7 @@ step-back mask sizes seen t bin todo left n small ty bl ln h =
     let e : 32 + n + (left - (32 + n)) ≡ left = omega arith in
     subst (λ (l : ℕ). momentsCan mask sizes seen (suc todo) l ≡ true) e (can-back mask sizes seen small todo (left - (32 + n)) (record { kind = t; size = n }) c h)
 
--- ---- onwards: where there is fills and a moment is due, there is a type and a length that the table takes and that keep it
+-- ---- onwards: where the moments can come and one is due, there is a type and a length that its rules take and behind which the others can
 pub record Taken (mask sizes seen todo left : ℕ) : Type 0 where
   pub kind : ℕ
   pub size : ℕ
@@ -167,7 +166,7 @@ step-on mask sizes seen todo left small h =
       still = o .still;
     }
 
--- ---- a cut's mask: with no bit there is never fills, with one there is a radial of one moment of two bytes
+-- ---- a cut's mask: with no bit no moment can come, with one a radial of one moment of two bytes
 pub no-bit : (sizes seen todo left : ℕ) → momentsCan 0 sizes seen (suc todo) left ≡ false
 unfolding momentsCan fills singles doubles
 no-bit sizes seen todo left =

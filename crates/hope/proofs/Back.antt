@@ -4,12 +4,12 @@ use Prim.Native.Nat.{ℕ, zero, suc, _+_, _-_, _*_, _^_, _≤_, _<_}
 use native.Mathlib.Decide.{decLt}
 use native.Mathlib.Omega.{arith}
 use mathlib.Core.Path.{_≡_, refl, sym, ap, subst, subst⁻¹, _∙_}
-use mathlib.Core.Bool.{Bool, true, false, cond}
+use mathlib.Core.Bool.{Bool, true, false}
 use mathlib.Core.List.{List, [], _∷_}
 use mathlib.Core.Logic.{dite}
 use lib.Dec.{eqb, leb, ltb}
 use lib.ListN.{take}
-use borrow.Author.Tests.{le-leb, lt-ltb, eqb-true, leb-true, leb-false, ltb-true, ltb-false}
+use borrow.Author.Tests.{le-leb, lt-ltb, eqb-true, ltb-true, ltb-false}
 use Rattle.le.proofs.Laws.{part-take}
 use Rattle.rules.specs.States.{closing, stateOk}
 use Rattle.rules.specs.Tiling.{lengthOk}
@@ -27,7 +27,7 @@ use Rattle.cut.specs.Cut.{cutOf, cutAt}
 use Rattle.moment.specs.declared.Moment.{Moment}
 use Rattle.moment.specs.Moment.{momentAt, momentCheck, momentRules, momentSize}
 use Rattle.radial.specs.declared.Radial.{Radial}
-use Rattle.radial.specs.Radial.{radialAt, radialCheck, radialRules, radialSize}
+use Rattle.radial.specs.Radial.{radialAt, radialCheck, radialRules}
 use Rattle.radial.proofs.Header.{header}
 use Rattle.walk.specs.declared.due.Due.{Due}
 use Rattle.walk.specs.declared.due.Due.the-variants as due
@@ -36,10 +36,10 @@ use Rattle.walk.specs.Due.{atStart, sizeAt, sizeOf, isEnd, dueIf, cutPlace, rad
 use Rattle.walk.specs.After.{afterCut, afterRadial, afterMoment, afterData, afterDataIf, closesCut}
 use Rattle.walk.specs.Hope.{momentsHope, radialsHope, radialHope}
 use Rattle.reading.specs.declared.step.Step.the-variants.{Took, Complete}
-use Rattle.reading.specs.Step.{takeGeneric, takeSite, takeTask, takeCut, takeRadial, takeMoment, takeData, cutIn, blockAt, hopeAfterCut, hopeAfterRadial, hopeAfterMoment, hopeAt, hoping, plainly, stepBy, plainStep, stepOf}
+use Rattle.reading.specs.Step.{takeCut, takeRadial, takeMoment, takeData, cutIn, blockAt, hopeAfterCut, hopeAfterRadial, hopeAfterMoment, hopeAt, hoping, plainly, stepBy, plainStep, stepOf}
 use Rattle.reading.specs.Reading.{walkBy, lastBy, fuel, endingTold, plainStop, plainTold, stop, told}
 use Rattle.reading.proofs.Exactly.{step-done}
-use Rattle.reading.proofs.Run.{settle-took, settle-fine, took-inj, due-either, plain-taken, stays, untaken, ended, Goes, on, off, goes, run-took, run-stays}
+use Rattle.reading.proofs.Run.{settle-took, settle-fine, took-inj, plain-taken, stays, untaken, ended, Goes, on, off, goes, run-took, run-stays}
 use Rattle.hope.proofs.Was.{AllNarrow, Cutting, Stands, Inside, mask-small, Was, was-on}
 use Rattle.hope.proofs.Hoped.{Masks, dueHope, cut-there, next-cut, same-cut}
 
@@ -264,7 +264,7 @@ record Same (k : ℕ) (f : List ℕ) (w : Walk) : Type 0 where
   had : Had (w .due) f w
   same : lastBy true k f w ≡ lastBy false k f w
 
--- THE FIRST HALF: where the plain reading comes to a volume's end, the reading goes the same way
+-- the first half: where the plain reading comes to a volume's end, the reading goes the same way
 back : (k : ℕ) (f : List ℕ) (w : Walk) → AllNarrow f → Was (w .due) f w → isEnd (lastBy false k f w .due) ≡ true → Same k f w
 unfolding walkBy
 back zero f w small i e = record { had = ended-had (w .due) f w e; same = refl }

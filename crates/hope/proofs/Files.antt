@@ -1,11 +1,11 @@
 -- Which files are told open and which are refused by 40, and what the writer says of a block behind which no hope is left. Assumes nothing.
-use Prim.Native.Nat.{ℕ, _+_, _≤_, _<_}
+use Prim.Native.Nat.{ℕ, _+_, _<_}
 use native.Mathlib.Omega.{arith}
 use mathlib.Core.Bool.{true, false}
 use mathlib.Core.List.{List, [], _∷_, _++_}
 use mathlib.Core.Logic.{_↔_, _⊎_, inl, inr}
 use mathlib.Core.Path.{_≡_, refl, sym, ap, subst, _∙_}
-use lib.Dec.{ltb, lit<}
+use lib.Dec.{lit<}
 use lib.ListN.{length, take}
 use lib.Seq.{take-all, take-take, length-take-le}
 use borrow.Author.Tests.{le-ltb}
@@ -17,7 +17,6 @@ use Rattle.walk.specs.declared.due.Due.{Due}
 use Rattle.walk.specs.declared.due.Due.the-variants as due
 use Rattle.walk.specs.declared.due.Walk.{Walk}
 use Rattle.walk.specs.Due.{atStart, sizeOf, isEnd}
-use Rattle.reading.specs.declared.step.Step.{Step}
 use Rattle.reading.specs.declared.step.Step.the-variants as step
 use Rattle.reading.specs.Exactly.{rulesOf}
 use Rattle.reading.specs.Step.{hopeAt, plainStep, stepOf}
@@ -29,13 +28,13 @@ use Rattle.reading.proofs.Growing.{keeps-took}
 use Rattle.writer.specs.declared.order.Answer.the-variants.{Refused}
 use Rattle.writer.specs.Agree.{written}
 use Rattle.writer.specs.Block.{Block, generic, site, task, cut, radial, moment, «data», kindOf, saysOf, fitsOf, bytesOf}
-use Rattle.writer.specs.Put.{Outcome, answerTo, checked, outcome, putOn, put}
+use Rattle.writer.specs.Put.{answerTo, checked, outcome, putOn, put}
 use Rattle.writer.proofs.Agreeing.{reads, inner-is}
 use Rattle.writer.proofs.EachKind.{going}
 use Rattle.writer.proofs.Same.{kind-if}
 use Rattle.hope.specs.Hope.{Hope, Reached, start, next, Open, Lost, Against, same, lost, EndsHope}
 use Rattle.hope.proofs.Back.{no-block}
-use Rattle.hope.proofs.Told.{hope-shorter, front-bytes, reached, reached-hope, accepted-hope, tested, against, lost-when, hope-told}
+use Rattle.hope.proofs.Told.{hope-shorter, front-bytes, reached, accepted-hope, tested, against, lost-when, hope-told}
 
 -- ---- no block's own rules say 40
 

@@ -1,12 +1,11 @@
 -- A moment header, and a radial header, that can be put where hope is left, and behind which it is left. Assumes nothing.
 use Prim.Native.Nat.{ℕ, zero, suc, _+_, _-_, _^_, _≤_, _<_}
 use native.Mathlib.Omega.{arith}
-use mathlib.Core.Path.{_≡_, refl, sym, ap, _∙_, subst}
+use mathlib.Core.Path.{_≡_, refl, sym, ap, subst}
 use mathlib.Core.Bool.{Bool, true, false, cond, _||_, or-true}
 use lib.Dec.{eqb, lit<}
-use borrow.Author.Tests.{eq-eqb, ne-eqb, eqb-true}
+use borrow.Author.Tests.{eq-eqb, ne-eqb}
 use Rattle.le.specs.Le.{Bytes, int}
-use Rattle.le.proofs.Tests.{fails}
 use Rattle.rules.specs.declared.check.Check.{Check}
 use Rattle.rules.specs.Ranges.{among, is, mostRadials, mostSequence, notBelowZero, onBits}
 use Rattle.rules.specs.Masks.{bit}

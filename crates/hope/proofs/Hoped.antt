@@ -3,15 +3,15 @@ use Prim.Native.Nat.{ℕ, suc, _+_, _-_, _*_, _≤_, _<_}
 use native.Mathlib.Decide.{decLt}
 use native.Mathlib.Omega.{arith}
 use mathlib.Core.Path.{_≡_, refl, sym, ap, subst, _∙_}
-use mathlib.Core.Bool.{Bool, true, false, cond}
+use mathlib.Core.Bool.{Bool, true, false}
 use mathlib.Core.List.{List}
 use mathlib.Core.Logic.{dite}
-use lib.Dec.{eqb, leb, ltb}
+use lib.Dec.{leb, ltb}
 use lib.ListN.{take}
 use borrow.Author.Tests.{le-leb, lt-ltb, eq-eqb, leb-true, leb-false, ltb-true}
 use Rattle.le.proofs.Laws.{part-take}
 use Rattle.le.proofs.Tests.{both}
-use Rattle.coming.specs.Radials.{radialsCan, radialsCanAfter}
+use Rattle.coming.specs.Radials.{radialsCan}
 use Rattle.coming.proofs.Radials.{closes-on, goes-on}
 use Rattle.cut.specs.declared.Cut.{Cut}
 use Rattle.cut.specs.Cut.{cutOf, cutAt}
@@ -23,7 +23,7 @@ use Rattle.walk.specs.After.{afterCut, afterData, afterDataIf, closesCut}
 use Rattle.walk.specs.Hope.{momentsHope, radialsHope, radialHope}
 use Rattle.reading.specs.declared.step.Step.the-variants.{Took}
 use Rattle.reading.specs.Step.{takeGeneric, takeSite, takeTask, takeCut, takeRadial, takeMoment, takeData, blockAt, hopeAfterCut, hopeAfterRadial, hopeAfterMoment, hopeAt}
-use Rattle.reading.proofs.Run.{settle-took, took-inj, due-either}
+use Rattle.reading.proofs.Run.{settle-took, took-inj}
 use Rattle.hope.proofs.Was.{Cutting, Inside, Was}
 
 -- the masks of the cuts from a to b, which stand in the file, have a bit

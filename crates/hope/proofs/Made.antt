@@ -7,7 +7,7 @@ use lib.Dec.{lit<}
 use lib.ListN.{length, getD}
 use Rattle.le.specs.Le.{bytes, run, Bytes}
 use Rattle.rules.specs.declared.check.Check.the-variants.{Fine}
-use Rattle.rules.specs.Ranges.{among, angle, notBelowZero, onBits}
+use Rattle.rules.specs.Ranges.{among, notBelowZero, onBits}
 use Rattle.rules.specs.States.{rhi, mostCuts, cutNumberOk}
 use Rattle.rules.proofs.Judged.{fine-if}
 use Rattle.rules.proofs.Four.{latitude, longitude}

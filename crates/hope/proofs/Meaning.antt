@@ -1,12 +1,12 @@
 -- What reading means, by the structure: what the plain reading means, and where it and reading part. Assumes nothing.
-use Prim.Native.Nat.{ℕ, zero, suc, _+_, _-_, _^_, _≤_, _<_}
+use Prim.Native.Nat.{ℕ, suc, _+_, _-_, _^_, _≤_, _<_}
 use native.Mathlib.Decide.{decLt}
 use native.Mathlib.Omega.{arith}
 use mathlib.Core.Path.{_≡_, refl, sym, ap, subst, _∙_}
-use mathlib.Core.Bool.{true, false, _&&_}
+use mathlib.Core.Bool.{true, _&&_}
 use mathlib.Core.List.{List, [], _∷_, _++_, append-assoc, append-nil}
 use mathlib.Core.Logic.{dite, _⊎_, inl, inr}
-use lib.Dec.{eqb, lit<}
+use lib.Dec.{lit<}
 use lib.IntN.{pos}
 use lib.ListN.{length, take, drop, length-append, take-append-drop}
 use lib.Seq.{take-at, take-all, take-append-le, take-add, drop-at, length-take-le}
@@ -23,8 +23,7 @@ use Rattle.task.specs.declared.Task.{Task}
 use Rattle.task.specs.Task.{taskAt}
 use Rattle.walk.specs.declared.due.Walk.{Walk}
 use Rattle.walk.specs.Due.{atStart, sizeOf}
-use Rattle.reading.specs.declared.Stretch.{Stretch}
-use Rattle.reading.specs.declared.step.Step.the-variants.{Took, Refused}
+use Rattle.reading.specs.declared.step.Step.the-variants.{Refused}
 use Rattle.reading.specs.Step.{stepOf}
 use Rattle.reading.specs.Reading.{last, fuel, endingTold, plainStop, plainStretches, plainTold, stop, ending, stretches, told}
 use Rattle.reading.proofs.Run.{Goes, on, off, goes, stays, taken, plain-taken, opened, run-stays, last-within}
@@ -35,7 +34,7 @@ use Rattle.reading.proofs.Loops.{last-step}
 use Rattle.volume.specs.Volume.{Volume, IsVolume, CutsOk, bytesOfVolume}
 use Rattle.volume.specs.Accepted.{Accepted, nothing, generic, site, task, radials, radial, moment, volume, AcceptedOk, bytesOfAccepted, dueSize, dueRules, Says, complete, follow, missing, broken}
 use Rattle.volume.specs.InPlace.{cutBlock}
-use Rattle.volume.specs.Meaning.{Holds, Told, Accepts, acceptedStretches}
+use Rattle.volume.specs.Meaning.{Told, Accepts, acceptedStretches}
 use Rattle.volume.proofs.Accepts.{Tried, tried, holds}
 use Rattle.volume.proofs.Accepts as volumes
 use Rattle.volume.proofs.Meaning.{reads}
@@ -46,7 +45,7 @@ use Rattle.hope.specs.Hope.{Hope, Begins, Lost, Against, same, lost}
 use Rattle.hope.specs.Meaning.{ReadsVolume, Hopeful, HopeSays, plainly, hopeless, ReadAs, Parts, Means}
 use Rattle.hope.proofs.Was.{AllNarrow}
 use Rattle.hope.proofs.Back.{complete-way, complete-told}
-use Rattle.hope.proofs.Made.{append-bytes, none-bytes}
+use Rattle.hope.proofs.Made.{append-bytes}
 use Rattle.hope.proofs.Told.{hope-shorter, same-radials, complete-plain, front-bytes, front-stops, accepted-hope, against, hope-told, begins, read-alike}
 
 -- ---- a volume's masks are numbers of 64 bits, whatever its data

@@ -7,15 +7,15 @@ use mathlib.Core.Path.{_≡_, refl, sym, ap, subst, _∙_}
 use mathlib.Core.Bool.{Bool, true, false, cond}
 use mathlib.Core.List.{List, [], _∷_, _++_, append-assoc, append-nil}
 use mathlib.Core.Logic.{dite, _⊎_, inl, inr}
-use lib.Dec.{eqb, leb, ltb}
+use lib.Dec.{eqb, ltb}
 use lib.ListN.{length, take, length-append}
 use lib.Seq.{take-all}
-use borrow.Author.Tests.{le-leb, lt-leb, lt-ltb, le-ltb, ltb-true, eq-eqb, ne-eqb}
+use borrow.Author.Tests.{le-leb, lt-leb, ltb-true, eq-eqb, ne-eqb}
 use Rattle.le.specs.Le.{Bytes}
 use Rattle.walk.specs.declared.due.Due.{Due}
 use Rattle.walk.specs.declared.due.Due.the-variants as due
 use Rattle.walk.specs.declared.due.Walk.{Walk}
-use Rattle.walk.specs.Due.{atStart, cutPlace, sizeAt, sizeOf, isEnd, dueIf}
+use Rattle.walk.specs.Due.{atStart, sizeAt, sizeOf, isEnd, dueIf}
 use Rattle.walk.specs.After.{afterGeneric, afterSite, afterTask, afterCut, afterRadial, afterMoment, afterData, afterDataIf, closesCut}
 use Rattle.reading.specs.declared.step.Step.the-variants as step
 use Rattle.reading.specs.Step.{settle, takeGeneric, takeSite, takeTask, takeCut, takeData, cutIn, hopeAfterCut, hoping, sayBlock, stepOf}
@@ -241,6 +241,6 @@ finish (suc n) f w e h = go (next-on (w .due) f w refl (g .was) (g .hoped)) (λ 
         let r = later (f ++ b) (s .after) (appended f w (s .after) (s .block) e (s .comes)) (omega arith) in
         record { more = b ++ r .more; bytes = append-bytes b (r .more) (s .comes .bytes) (r .bytes); complete = ap told (sym (append-assoc f b (r .more))) ∙ r .complete }
 
--- THE SECOND HALF: a file whose blocks are all accepted has bytes that complete it
+-- the second half: a file whose blocks are all accepted has bytes that complete it
 pub completes : (f : List ℕ) → Bytes f → stop f .at ≡ length f → Finish f
 completes f bs e = finish (suc (far (stop f .due) (stop f))) f (stop f) (record { bytes = bs; stops = refl; end = e }) (omega arith)

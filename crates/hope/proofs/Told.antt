@@ -1,8 +1,8 @@
 -- Hope is what reading asks for: the two halves joined, and what reading tells against what the plain reading tells. Assumes nothing.
-use Prim.Native.Nat.{ℕ, suc, _+_, _-_, _≤_, _<_}
+use Prim.Native.Nat.{ℕ, _+_, _-_, _≤_, _<_}
 use native.Mathlib.Omega.{arith}
 use mathlib.Core.Path.{_≡_, refl, sym, ap, subst, subst⁻¹, _∙_}
-use mathlib.Core.Bool.{Bool, true, false}
+use mathlib.Core.Bool.{true, false}
 use mathlib.Core.List.{List, [], _∷_, _++_, append-assoc, append-nil}
 use mathlib.Core.Logic.{_↔_, _⊎_, inl, inr}
 use lib.ListN.{length, take, drop, length-append, take-append-drop}
@@ -17,11 +17,10 @@ use Rattle.walk.specs.Due.{atStart, sizeAt, sizeOf}
 use Rattle.reading.specs.declared.Stretch.{Stretch}
 use Rattle.reading.specs.declared.step.Step.{Step}
 use Rattle.reading.specs.declared.step.Step.the-variants.{Took, Open, Refused, Complete}
-use Rattle.reading.specs.Step.{hopeAt, hoping, plainly, sayBlock, stepBy, plainStep, stepOf}
+use Rattle.reading.specs.Step.{hopeAt, plainly, sayBlock, stepBy, plainStep, stepOf}
 use Rattle.reading.specs.Reading.{lastBy, last, fuel, stretchOf, traceBy, endingTold, plainStop, plainStretches, plainTold, stop, ending, stretches, told}
-use Rattle.reading.proofs.Run.{Asked, asks, is-here, to-plain, took-hope, taken, plain-taken, stays, run-stops, run-stays, run-step, last-holds, last-off, last-within, enough}
+use Rattle.reading.proofs.Run.{Asked, asks, is-here, to-plain, took-hope, taken, plain-taken, stays, run-stops, run-stays, run-step, last-holds, last-off, enough}
 use Rattle.reading.proofs.Run as run
-use Rattle.reading.proofs.Exactly.{step-done}
 use Rattle.reading.proofs.Growing.{stretch-append, through, rests}
 use Rattle.reading.proofs.Grown.{grows}
 use Rattle.writer.proofs.Ahead.{stops-next}
@@ -34,7 +33,7 @@ use Rattle.hope.specs.Hope.{Hope, Begins, Reached, start, next, Tested, 
 use Rattle.hope.proofs.Was.{bytes-narrow}
 use Rattle.hope.proofs.Back.{with-hope, no-block, complete-told}
 use Rattle.hope.proofs.Made.{append-bytes}
-use Rattle.hope.proofs.Onwards.{Finish, completes}
+use Rattle.hope.proofs.Onwards.{completes}
 
 -- ---- complete by the reading is complete by the plain one
 
@@ -264,7 +263,7 @@ module _ (f : List ℕ) (w m : Walk) (bs : Bytes f) (r : Reached f w) (e : plain
       go (alike x) = took-hope f w m (x ∙ e)
       go (past n l t x) = absurd (not-refused 40 (w .at) x)
 
--- THE THEOREM: at every walk that reading reaches, behind every block that the plain reading takes there, the test says yes exactly where
+-- the theorem: at every walk that reading reaches, behind every block that the plain reading takes there, the test says yes exactly where
 -- a continuation exists
 pub tested : (f : List ℕ) (w m : Walk) → Bytes f → Reached f w → plainStep f w ≡ Took m → Tested f w m
 tested f w m bs r e = record { test = (there, hope-test f w m bs r e); left = λ h. with-hope f w m e (hope-test f w m bs r e h); ended = λ none. go none (beside f w) }

@@ -6,7 +6,7 @@ use mathlib.Core.Bool.{Bool, true, false}
 use mathlib.Core.List.{List}
 use lib.Dec.{leb, ltb}
 use lib.ListN.{take}
-use borrow.Author.Tests.{leb-true, leb-false, ltb-true, ltb-false}
+use borrow.Author.Tests.{leb-true, leb-false, ltb-true}
 use Rattle.le.specs.Le.{Bytes}
 use Rattle.le.proofs.Laws.{le-lt, part-bytes, part-take}
 use Rattle.rules.specs.Ranges.{mostSequence}

@@ -1,7 +1,7 @@
 use mathlib.Core.Path.{sym}
-use Prim.Native.Nat.{_*_, _/_, _%_}
+use Prim.Native.Nat.{_*_}
 use native.Mathlib.Omega.{arith}
-use borrow.Author.Tests.{le-leb, lt-leb, eq-eqb, ne-eqb}
+use borrow.Author.Tests.{le-leb, lt-leb}
 use Rattle.coming.proofs.Filling.{level}
 use Rattle.coming.proofs.holds.Statement.{statement}
 use Rattle.coming.proofs.holds.Tie as tie

@@ -1,8 +1,5 @@
-use mathlib.Core.Path.{_≡_, sym, subst}
-use mathlib.Core.Bool.{Bool}
 use native.Mathlib.Omega.{arith}
 use borrow.Author.Needs.{needs}
-use Rattle.coming.specs.Radials.{radialsCanAfter}
 use Rattle.coming.proofs.Radials.{too-many, closing, going, full}
 use Rattle.coming.proofs.radials_can_after.Statement.{statement}
 use Rattle.coming.proofs.radials_can_after.Tie as tie

@@ -1,15 +1,15 @@
 use Prim.Native.Nat.{_+_}
-use mathlib.Core.Path.{refl, ap, sym, _∙_}
+use mathlib.Core.Path.{_≡_, refl, ap, sym, _∙_}
 use native.Mathlib.Omega.{arith}
 use borrow.Author.Needs.{needs}
 use lib.ListN.{take}
 use lib.Seq.{length-take-le}
-use Rattle.le.specs.Le.{le}
 use Rattle.radial.specs.Radial.{radialAt}
 use Rattle.walk.specs.declared.due.Due.the-variants as due
-use Rattle.walk.specs.Due.{sizeAt, isEnd, cutPlace}
+use Rattle.walk.specs.Due.{sizeAt, isEnd}
+use Rattle.walk.specs.Hope.{radialHope}
 use Rattle.reading.specs.declared.step.Step.the-variants.{Open}
-use Rattle.reading.specs.Step.{blockAt, hopeByMasks, hopeAt}
+use Rattle.reading.specs.Step.{blockAt, hopeAt, hoping, stepOf}
 use Rattle.reading.proofs.Masks.{by-masks}
 use Rattle.reading.proofs.Run.{untaken}
 use Rattle.reading.proofs.Known.{not-took, known-here, known-short}
@@ -32,17 +32,18 @@ settle-requires c κs =
     let s = c .before .before .before .before .before .before .before .before .before .before in
     omega (arith, s .pre .0, s .good)
 
-returns-2 : tie.Need-returns-2
+-- what is said of the header, hope asked, is what the step says
+says : (d : tie.After-settle)
+    → let s = d .before .before .before .before .before .before .before .before .before .before .before in
+    hoping (radialHope (d .before .before .before .radial .result)) (s .args .w .at) (d .settle .result) ≡ stepOf (s .args .file .now) (s .args .w)
 unfolding sizeAt isEnd blockAt hopeAt
-returns-2 c =
-    let d = c .before in
+says d =
     let e = d .before .before .before .before .before .before .before .before .before in
     let s = e .before .before in
     let f = s .args .file .now in
     let w = s .args .w in
     let p = take (w .at + 64) f in
-    sym (untaken (hopeByMasks (radialAt p (w .at)) (le 8 p (cutPlace (w .count .cut) + 84)) (le 8 p (cutPlace (w .count .cut) + 92)) w) (w .at) (d .settle .result) (not-took _ (c .match .keys2)))
-    ∙ rw (
+    rw (
       d .settle .ensures,
       d .before .check .ensures,
       d .before .before .radial-due .ensures,
@@ -54,28 +55,11 @@ returns-2 c =
     )
     (by-masks p w (radialAt p (w .at)) ∙ sym (known-here f w due.Radial (s .pre .1) refl (omega (arith, s .pre .0, e .if1 .left))))
 
+returns-2 : tie.Need-returns-2
+returns-2 c = sym (untaken _ _ _ (not-took _ (c .match .keys2))) ∙ says (c .before)
+
 returns-3 : tie.Need-returns-3
-unfolding sizeAt isEnd blockAt hopeAt
-returns-3 c =
-    let d = c .before .before .before .before in
-    let e = d .before .before .before .before .before .before .before .before .before in
-    let s = e .before .before in
-    let f = s .args .file .now in
-    let w = s .args .w in
-    let p = take (w .at + 64) f in
-    rw (
-      c .hoping .ensures,
-      c .before .radial2 .ensures,
-      d .settle .ensures,
-      d .before .check .ensures,
-      d .before .before .radial-due .ensures,
-      d .before .before .before .radial .ensures,
-      d .before .before .before .before .u64-at2 .ensures,
-      d .before .before .before .before .before .u64-at .ensures,
-      d .before .before .before .before .before .before .cut-place .ensures,
-      d .before .before .before .before .before .before .before .read .ensures,
-    )
-    (by-masks p w (radialAt p (w .at)) ∙ sym (known-here f w due.Radial (s .pre .1) refl (omega (arith, s .pre .0, e .if1 .left))))
+returns-3 c = c .hoping .ensures ∙ rw (c .before .radial2 .ensures) (says (c .before .before .before .before))
 
 pub radial-step-spec : {M : Type 1} → statement M
 radial-step-spec =
