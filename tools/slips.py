@@ -187,7 +187,9 @@ SLIPS = {
     'one_radial_for_a_cut': [
         ('crates/coming/specs/Radials.antt', '2 * (cuts - cut)', '1 * (cuts - cut)'),
         ('crates/coming/src/lib.rt', '65536 - 2 * later', '65536 - 1 * later'),
+        ('crates/coming/src/lib.rt', 'if 32768 < later', 'if 65536 < later'),
         ('crates/coming/proofs/Radials.antt', '2 * (cuts - cut)', '1 * (cuts - cut)'),
+        ('crates/coming/proofs/Radials.antt', '32768', '65536'),
     ],
     # a full cut let open (document 02, #110)
     'full_cut_let_open': [
