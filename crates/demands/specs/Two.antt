@@ -132,7 +132,7 @@ pub record Trips : Type 0 where
 -- writing takes a block exactly when state and room agree, reading would take it there, and the room suffices; a block
 -- taken keeps agreement. The blocks that reading accepts, put one after the other, give the same bytes; a block put and read
 -- again is the same block; what a fresh state and any blocks taken have written is complete, or open at a block's end, and
--- reading it finds those blocks. A block that the table's checks refuse, the reader refuses there with that number and place
+-- reading it finds those blocks. A block that the table's checks refuse, or 40, the reader refuses there with that number and place
 pub record Writing : Type 0 where
   pub exactly : (b : Block) → Fits b → (w : Walk) (room : List ℕ) → TakenWhen b w room
   pub keeps : (b : Block) → Fits b → (w : Walk) (room : List ℕ) → Keeps b w room

@@ -1,5 +1,6 @@
 -- The accepted blocks of a file, as the beginning of a volume that they are; the block that is due behind them; and what is
--- to be told of the bytes that follow (document 01, "What reading tells"). Nothing here knows how a file is read.
+-- to be told of the bytes that follow (document 01, "What reading tells"), by the blocks' own rules alone: hope is `hope/Meaning`'s. Nothing
+-- here knows how a file is read.
 use Prim.Native.Nat.{ℕ, suc, _+_, _-_, _<_, _≤_}
 use mathlib.Core.List.{List, [], _∷_, _++_, reverse}
 use lib.ListN.{length}

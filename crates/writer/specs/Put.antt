@@ -21,7 +21,7 @@ use Rattle.writer.specs.Block.{Block, kindOf, saysOf, fitsOf, lengthOf, 
 unfoldable pub lastTests : Bool → ℕ → ℕ → ℕ → Answer
 lastTests fits at size room = cond fits (cond (leb (at + size) room) Taken (Refused 33 at)) (Refused 35 at)
 
--- what the reader refuses is refused with its number and place ("Writing": the table's checks). A block that is offered
+-- what the reader refuses is refused with its number and place ("Writing": the table's checks, and 40). A block that is offered
 -- has all its bytes and is due, so the last two lines are never used
 unfoldable pub checked : Step → Answer → Answer
 checked (step.Took m) a = a
@@ -31,7 +31,7 @@ checked step.Complete a = a
 
 -- The answer to a block, by its kind, what the reader says of it, whether it has its header's length, and its size; room is
 -- the room's length. The refusals stand in their order ("Writing"): 37, where the state is taken as it is given, only for
--- a room that ends before what is written; 25; 34; the table's checks; 35; 33.
+-- a room that ends before what is written; 25; 34; the table's checks; 40 (document 02, #110); 35; 33.
 unfoldable pub answerTo : Due → Step → Bool → ℕ → Walk → ℕ → Answer
 answerTo kind says fits size w room =
     cond (ltb room (w .at)) (Refused 37 0)

@@ -119,7 +119,7 @@ pub record SameBlocks (bs : List Block) (w : Walk) (room : List ℕ) : Type 0 wh
   pub bytes : written w room ≡ run bytesOf bs
   pub blocks : blocksIn (written w room) ≡ bs
 
--- a block that the table's checks refuse is refused by reading what is written, followed by that block, with this number and
+-- a block that the table's checks refuse, or 40, is refused by reading what is written, followed by that block, with this number and
 -- place ("Writing": the place is that of the reader)
 abbrev pub SamePlace : Block → Walk → List ℕ → Type 0
 SamePlace b w room =
