@@ -13,6 +13,7 @@ import sys
 from collections import namedtuple
 from fractions import Fraction
 from functools import lru_cache
+from itertools import zip_longest
 
 MAGIC = 0x4D545352
 LISTING_TAKES = 65536          # "Numbers to try": the listing's part of the input
@@ -403,6 +404,21 @@ class Reading:
             kinds[i] = g.kind
             hundredths[i] = g.hundredths if g.kind == 5 else 0
         return len(gates)
+
+    def check_row(self, n, t, kinds, hundredths):
+        """Document 02, #112: 'same' where both lists are the row's, else ('differs', gate), the first
+        gate at which one is not; the end of one before the others is a difference. Order: 30, 31."""
+        m = self.find(n, t)
+        if not isinstance(m, Moment):
+            return m
+        gates = m.length // m.bin_length
+        row = [None] * gates, [None] * gates
+        assert self.row(n, t, *row) == gates
+        given = kinds, hundredths
+        for gate, entries in enumerate(zip_longest(*row, *given)):      # None past an end
+            if entries[:2] != entries[2:]:
+                return ('differs', gate)
+        return 'same'
 
     def tally(self, cut, t, start=0, end=0):
         """Whole radials of the cut, in a wedge, that carry the type, and their seven kinds of gate.

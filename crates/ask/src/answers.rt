@@ -78,7 +78,8 @@ pub fn moment_data(file: &[u8], sequence: usize, t: u32) -> &[u8]
     }
 }
 
-pub(crate) fn coding(h: Moment) -> Coding
+// What a header says of its codes.
+pub fn coding(h: Moment) -> Coding
     ensures { λ r. ⌜ r ≡ codingOf h ⌝ }
 {
     Coding {

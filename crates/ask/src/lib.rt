@@ -1,4 +1,4 @@
 // Questions on a volume: a radial, a moment, a gate, a row, a tally. Each is answered on whole radials, whatever the verdict.
 pub mod answers;
-mod places;
+pub mod places;
 pub mod tallies;

@@ -22,7 +22,8 @@ pub(crate) fn in_stretch(b: &[u8], s: Stretch, t: u32) -> Where
     }
 }
 
-pub(crate) fn find(file: &[u8], sequence: usize, t: u32) -> Where
+// The moment of a type in the whole radial with a sequence number, from 1.
+pub fn find(file: &[u8], sequence: usize, t: u32) -> Where
     ensures { λ r. ⌜ r ≡ whereIs (now (file .entry)) sequence t ⌝ }
 {
     match reading::find(file, sequence) {

@@ -10,14 +10,17 @@ use Rattle.gates.specs.Gates.{differenceOf, magnitudeOf, roundedOf, hund
 use Rattle.gates.specs.Nearest.{like, Nearest}
 
 -- there is one such number
-nearest-size : {d : ℤ} {scale : ℕ} {h : ℤ} → Nearest d scale h → (200 * natAbs d + scale) / (2 * scale) ≡ natAbs h
-nearest-size {d} {scale} {h} p =
-    div-eq-of-lt-le (2 * scale) (p .at-least) (rw (add-one (natAbs h), suc-mul (natAbs h) (2 * scale)) (omega arith))
+pub magnitude-one : (n scale m : ℕ) → m * (2 * scale) ≤ 200 * n + scale → 200 * n < m * (2 * scale) + scale → magnitudeOf n scale ≡ m
+unfolding magnitudeOf
+magnitude-one n scale m a u = div-eq-of-lt-le (2 * scale) a (rw (add-one m, suc-mul m (2 * scale)) (omega arith))
+
+nearest-size : {d : ℤ} {scale : ℕ} {h : ℤ} → Nearest d scale h → magnitudeOf (natAbs d) scale ≡ natAbs h
+nearest-size {d} {scale} {h} p = magnitude-one (natAbs d) scale (natAbs h) (p .at-least) (p .under)
 
 pub nearest-one : {d : ℤ} {scale : ℕ} {h h′ : ℤ} → Nearest d scale h → Nearest d scale h′ → h ≡ h′
 nearest-one {d} p q = p .sign ∙ ap (like d) (sym (nearest-size p) ∙ nearest-size q) ∙ sym (q .sign)
 
-near : (n scale : ℕ) → 0 < scale → (magnitudeOf n scale * (2 * scale) ≤ 200 * n + scale) × (200 * n < magnitudeOf n scale * (2 * scale) + scale)
+pub near : (n scale : ℕ) → 0 < scale → (magnitudeOf n scale * (2 * scale) ≤ 200 * n + scale) × (200 * n < magnitudeOf n scale * (2 * scale) + scale)
 unfolding magnitudeOf
 near n scale h =
     let e = mod-add-div' (200 * n + scale) (2 * scale) in

@@ -21,6 +21,13 @@ toldRow (Refused number) = refused number 0
 abbrev pub shownOf : Coding → ℕ → ℤ
 shownOf c code = toldOf c code .hundredths
 
+-- the row of some codes, as two lists: the kind and the hundredths of each gate
+abbrev pub rowKinds : Coding → List ℕ → List ℕ
+rowKinds c codes = map (kindOf c) codes
+
+abbrev pub rowHundredths : Coding → List ℕ → List ℤ
+rowHundredths c codes = map (shownOf c) codes
+
 -- the hundredths of each one-byte code, in the codes' order
 pub record Tabled (c : Coding) (t : List ℤ) : Type 0 where
   pub long : length t ≡ 256
@@ -37,5 +44,5 @@ filled new old = new ++ drop (length new) old
 -- the answer, and the buffers after: filled, or as they were where either is too short
 pub record Rowed (c : Coding) (codes : List ℕ) (k : List ℕ) (h : List ℤ) (r : RowAnswer) (k′ : List ℕ) (h′ : List ℤ) : Type 0 where
   pub answer : toldRow r ≡ cond (rooms codes k h) (answered (length codes)) (refused 33 0)
-  pub kinds : k′ ≡ cond (rooms codes k h) (filled (map (kindOf c) codes) k) k
-  pub hundredths : h′ ≡ cond (rooms codes k h) (filled (map (shownOf c) codes) h) h
+  pub kinds : k′ ≡ cond (rooms codes k h) (filled (rowKinds c codes) k) k
+  pub hundredths : h′ ≡ cond (rooms codes k h) (filled (rowHundredths c codes) h) h

@@ -30,7 +30,8 @@ pub enum Gate {
 }
 
 impl Gate {
-    const VALUE: u8 = 5;
+    // The number by which a row shows a value.
+    pub const VALUE: u8 = 5;
 
     // The number by which a row shows the gate.
     pub fn kind(self) -> u8

@@ -1,0 +1,4 @@
+pub mod Agreed
+pub mod Alike
+pub mod Checked
+pub mod Signs
