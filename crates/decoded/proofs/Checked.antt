@@ -29,6 +29,6 @@ module _ (c : Coding) (codes k : List ℕ) (h : List ℤ) where
       let b = eqb (length k) (length codes) in
       let d = eqb (length h) (length codes) in
       rw (fails (a && (b && d)) (λ e.
-          let x = both a (b && d) e in
-          let y = both b d (x .1) in
-          not (record { row = eqb-true (agreed c codes k h) (length codes) (x .0); kinds = eqb-true (length k) (length codes) (y .0); hundredths = eqb-true (length h) (length codes) (y .1) })))
+      let x = both a (b && d) e in
+      let y = both b d (x .1) in
+      not (record { row = eqb-true (agreed c codes k h) (length codes) (x .0); kinds = eqb-true (length k) (length codes) (y .0); hundredths = eqb-true (length h) (length codes) (y .1) })))

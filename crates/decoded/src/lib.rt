@@ -94,7 +94,10 @@ fn least(a: usize, b: usize) -> usize
 fn agree(bytes: &[u8], bin: u16, c: Coding, kinds: &[u8], hundredths: &[i32]) -> usize
     ensures { λ r. ⌜ r ≡ agreed c (codesOf bin (now (bytes .entry))) (now (kinds .entry)) (now (hundredths .entry)) ⌝ }
 {
-    let n = least(gates::gates_in(bytes, bin), least(kinds.len(), hundredths.len()));
+    let n = least(
+        gates::gates_in(bytes, bin),
+        least(kinds.len(), hundredths.len()),
+    );
     let mut i = 0;
     while i < n {
         if !shows(c, gates::code_at(bytes, bin, i), kinds[i], hundredths[i]) {
@@ -123,13 +126,7 @@ fn compare(bytes: &[u8], bin: u16, c: Coding, kinds: &[u8], hundredths: &[i32]) 
 // ---- a file
 
 // Whether two lists are the kinds and the hundredths of all gates of the moment of a type.
-pub fn check(
-    file: &[u8],
-    sequence: usize,
-    t: u32,
-    kinds: &[u8],
-    hundredths: &[i32],
-) -> CheckAnswer
+pub fn check(file: &[u8], sequence: usize, t: u32, kinds: &[u8], hundredths: &[i32]) -> CheckAnswer
     ensures { λ r. ⌜ toldCheck r ≡ checkTold (now (file .entry)) (whereIs (now (file .entry)) sequence t) (now (kinds .entry)) (now (hundredths .entry)) ⌝ }
 {
     match places::find(file, sequence, t) {

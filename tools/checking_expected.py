@@ -1,10 +1,10 @@
 #!/usr/bin/env python3
-"""What the program `check` reads and prints: rows that somebody else decoded, checked against a volume's
+"""What the program `checking` reads and prints: rows that somebody else decoded, checked against a volume's
 own (document 02, #112).
 
-    python3 tools/check_expected.py stdin > crates/check/stdin
-    python3 tools/check_expected.py stdout > crates/check/stdout
-    python3 tools/check_expected.py names       each row's number and what it is, a line for each of the output
+    python3 tools/checking_expected.py stdin > crates/checking/stdin
+    python3 tools/checking_expected.py stdout > crates/checking/stdout
+    python3 tools/checking_expected.py names       each row's number and what it is, a line for each of the output
 
 Standard input is one volume after the other: how many bytes it has, how many rows follow it, its bytes,
 then each row: radial, type, how many kinds, how many hundredths, the kinds, and the hundredths, which
@@ -572,7 +572,7 @@ def main(args):
                 print(f'{next(number)}: {volume}, radial {c.radial}, type {c.type}: {c.name}')
                 print(end='\n' * (len(lines(c)) - 1))   # nothing beside a refusal in words
     else:
-        sys.exit('usage: check_expected.py stdin|stdout|names')
+        sys.exit('usage: checking_expected.py stdin|stdout|names')
 
 
 if __name__ == '__main__':
