@@ -22,7 +22,7 @@ use Rattle.ask.specs.Places.{whereIs}
 use Rattle.ask.specs.Shown.{Shown}
 
 -- a row that was refused did not answer
-not-filled : (r : RowAnswer) (m number : ℕ) → toldRow r ≡ answered m → toldRow r ≡ refused number 0 → ⊥
+pub not-filled : (r : RowAnswer) (m number : ℕ) → toldRow r ≡ answered m → toldRow r ≡ refused number 0 → ⊥
 not-filled r m number a b = let e : answered m ≡ refused number 0 = sym a ∙ b in let z : _≡_ {A = ℕ} 0 1 = cc in omega arith
 
 module _ (f : List ℕ) (n t m : ℕ) (k k′ : List ℕ) (h h′ : List ℤ) (r : RowAnswer) (e : toldRow r ≡ answered m) where

@@ -2,12 +2,12 @@
 use mathlib.Core.Bool.{Bool, true, false, false≢true}
 use mathlib.Core.List.{List, [], _∷_, _++_}
 use mathlib.Core.Path.{_≡_, refl, sym, ap, ap₂, _∙_}
-use Prim.Native.Nat.{ℕ, zero, suc, _≤_, _<_}
+use Prim.Native.Nat.{ℕ, zero, suc, _≤_, _<_, min}
 use native.Mathlib.Omega.{arith}
 use lib.ListN.{length, getD, take}
 use Rattle.decoded.specs.Decoded.{alike}
 
-by : {P : Type 0} (t : Bool) → (t ≡ true → P) → (t ≡ false → P) → P
+pub by : {P : Type 0} (t : Bool) → (t ≡ true → P) → (t ≡ false → P) → P
 by true f g = f refl
 by false f g = g refl
 
@@ -71,8 +71,8 @@ module _ {A : Type 0} (test : A → A → Bool) where
   longer own [] more = refl
   longer own (x ∷ xs) more = step-yes x x xs (xs ++ more) (own x) ∙ ap suc (longer own xs more)
 
-  pub shorter : ((x : A) → test x x ≡ true) → (xs : List A) (n : ℕ) → n ≤ length xs → alike test xs (take n xs) ≡ n
+  pub shorter : ((x : A) → test x x ≡ true) → (xs : List A) (n : ℕ) → alike test xs (take n xs) ≡ min n (length xs)
   unfolding alike
-  shorter own [] n h = omega arith
-  shorter own (x ∷ xs) zero h = refl
-  shorter own (x ∷ xs) (suc n) h = step-yes x x xs (take n xs) (own x) ∙ ap suc (shorter own xs n (omega arith))
+  shorter own [] n = omega arith
+  shorter own (x ∷ xs) zero = omega arith
+  shorter own (x ∷ xs) (suc n) = step-yes x x xs (take n xs) (own x) ∙ ap suc (shorter own xs n) ∙ omega arith

@@ -1,4 +1,9 @@
 pub mod Agreed
 pub mod Alike
 pub mod Checked
+pub mod Exactly
+pub mod Grown
+pub mod Lists
+pub mod Rows
 pub mod Signs
+pub mod Tellings

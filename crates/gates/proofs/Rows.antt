@@ -14,7 +14,7 @@ use Rattle.gates.specs.declared.Coding.{Coding}
 use Rattle.gates.specs.declared.RowAnswer.{RowAnswer}
 use Rattle.gates.specs.declared.RowAnswer.the-variants.{Filled, Refused}
 use Rattle.gates.specs.Gates.{gateOf, kindOf, toldOf}
-use Rattle.gates.specs.Rows.{toldRow, shownOf, rooms, filled, Rowed}
+use Rattle.gates.specs.Rows.{toldRow, shownOf, rowKinds, rowHundredths, rooms, filled, Rowed}
 use Rattle.gates.specs.Telling.{refused, answered}
 use Rattle.gates.proofs.Tellings.{told-row-one}
 
@@ -93,22 +93,34 @@ pub record Shows (c : Coding) (codes : List ℕ) (n : ℕ) (k′ : List ℕ) (h�
   pub kind : (i : ℕ) → i < n → getD k′ i 0 ≡ kindOf c (getD codes i 0)
   pub hundredths : (i : ℕ) → i < n → getD h′ i (pos 0) ≡ shownOf c (getD codes i 0)
 
-pub row-shows : {c : Coding} {codes k k′ : List ℕ} {h h′ : List ℤ} {r : RowAnswer} (n : ℕ) → Rowed c codes k h r k′ h′ → toldRow r ≡ answered n → Shows c codes n k′ h′
-unfolding gateOf toldOf
-row-shows {c} {codes} {k} {k′} {h} {h′} {r} n p e = go (rooms codes k h) refl
+-- a row that is answered was filled
+pub record IsFilled (c : Coding) (codes k : List ℕ) (h : List ℤ) (n : ℕ) (k′ : List ℕ) (h′ : List ℤ) : Type 0 where
+  pub all : n ≡ length codes
+  pub kinds : k′ ≡ filled (rowKinds c codes) k
+  pub hundredths : h′ ≡ filled (rowHundredths c codes) h
+
+pub row-filled : {c : Coding} {codes k k′ : List ℕ} {h h′ : List ℤ} {r : RowAnswer} (n : ℕ) → Rowed c codes k h r k′ h′ → toldRow r ≡ answered n → IsFilled c codes k h n k′ h′
+row-filled {c} {codes} {k} {k′} {h} {h′} {r} n p e = go (rooms codes k h) refl
   where
-    go : (b : Bool) → rooms codes k h ≡ b → Shows c codes n k′ h′
+    go : (b : Bool) → rooms codes k h ≡ b → IsFilled c codes k h n k′ h′
     go true q =
         let here : answered n ≡ answered (length codes) = sym e ∙ rw q at (p .answer) in
         let all : n ≡ length codes = cc in
-        record {
-          all = all;
-          kind = λ i l. ap (λ (x : List ℕ). getD x i 0) (rw q at (p .kinds)) ∙ at-gate (kindOf c) codes k i (omega arith);
-          hundredths = λ i l. ap (λ (x : List ℤ). getD x i (pos 0)) (rw q at (p .hundredths)) ∙ at-gate (shownOf c) codes h i (omega arith);
-        }
+        record { all = all; kinds = rw q at (p .kinds); hundredths = rw q at (p .hundredths) }
     go false q =
         let here : answered n ≡ refused 33 0 = sym e ∙ rw q at (p .answer) in
         absurd (let z : _≡_ {A = ℕ} 0 1 = cc in omega arith)
+
+pub row-shows : {c : Coding} {codes k k′ : List ℕ} {h h′ : List ℤ} {r : RowAnswer} (n : ℕ) → Rowed c codes k h r k′ h′ → toldRow r ≡ answered n → Shows c codes n k′ h′
+unfolding gateOf toldOf
+row-shows {c} {codes} {k} {k′} {h} {h′} n p e =
+    let w = row-filled n p e in
+    let all = w .all in
+    record {
+      all = all;
+      kind = λ i l. ap (λ (x : List ℕ). getD x i 0) (w .kinds) ∙ at-gate (kindOf c) codes k i (omega arith);
+      hundredths = λ i l. ap (λ (x : List ℤ). getD x i (pos 0)) (w .hundredths) ∙ at-gate (shownOf c) codes h i (omega arith);
+    }
 
 -- two results that are allowed for one input are one
 pub row-one : {c : Coding} {codes k k′ k″ : List ℕ} {h h′ h″ : List ℤ} {r s : RowAnswer} → Rowed c codes k h r k′ h′ → Rowed c codes k h s k″ h″
