@@ -1,5 +1,6 @@
 pub mod Contents
 pub mod Cuts
+pub mod Decoded
 pub mod Floats
 pub mod Hopes
 pub mod One

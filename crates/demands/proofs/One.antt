@@ -42,6 +42,10 @@ use Rattle.ask.specs.Tallies.{tallyOf, cutAccepted, tallyTold, tallyAnswer}
 use Rattle.ask.proofs.Asked.{as-asked}
 use Rattle.ask.proofs.Tellings.{told-gate-answer-one, told-tally-one, row-told-one}
 use Rattle.lent.specs.Lending.{lentOf, toldLent}
+use Rattle.decoded.specs.Decoded.{checkTold}
+use Rattle.decoded.specs.Exactly.{There}
+use Rattle.decoded.proofs.Exactly.{is-checked}
+use Rattle.decoded.proofs.Tellings.{told-check-one}
 use Rattle.index.specs.declared.Answer.{Answer}
 use Rattle.index.specs.declared.Answer.the-variants as index
 use Rattle.index.specs.Answer.{complete, toldIndex, answerOf, roomOf, Writes}
@@ -76,7 +80,7 @@ unfolding gateTold gateIn
 past-the-gates f s p i h = rw (le-ltb i (length (codesOf (momentAt (bytesOf f s) p .«bin_length») (dataAt (bytesOf f s) p))) h)
 
 questions : (f : List ℕ) (n t : ℕ) → Questions f n t
-unfolding radialTold inFound momentTold dataTold gateTold
+unfolding radialTold inFound momentTold dataTold gateTold checkTold
 questions f n t =
     record {
       radial = λ e. rw e (refl, refl);
@@ -86,6 +90,9 @@ questions f n t =
       gate-30 = λ i e. rw e;
       gate-31 = λ i e. rw e;
       gate-32 = λ i s p e h. ap (λ (a : Where). gateTold f a i) e ∙ past-the-gates f s p i h;
+      check-30 = λ k h e. rw e;
+      check-31 = λ k h e. rw e;
+      checked = λ k h s p e. let w : There f n t = record { stretch = s; place = p; at = e } in (_, is-checked f n t w k h);
       as-asked = as-asked f n t;
     }
 
@@ -267,6 +274,7 @@ determined =
       gate = told-gate-one;
       gate-told = values-one;
       gate-asked = told-gate-answer-one;
+      check = told-check-one;
       tally = told-tally-one;
       row = λ c codes k h a b k₁ k₂ h₁ h₂ x y. row-one x y;
       row-asked = row-told-one;

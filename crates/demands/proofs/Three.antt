@@ -1,7 +1,8 @@
 -- Demand 3, by citing what growth keeps of a reading and of the answers. Assumes nothing.
 use Rattle.reading.proofs.Grown.{grows}
 use Rattle.ask.proofs.Grown.{answers-grow}
+use Rattle.decoded.proofs.Grown.{checks-grow}
 use Rattle.demands.specs.Three.{DemandThree}
 
 pub demand-three : DemandThree
-demand-three A C some = record { reading = grows A C some; answers = answers-grow A C some }
+demand-three A C some = record { reading = grows A C some; answers = answers-grow A C some; checks = checks-grow A C some }

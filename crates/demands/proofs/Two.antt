@@ -34,6 +34,7 @@ use Rattle.demands.proofs.Cuts.{many-cuts-hold}
 use Rattle.demands.proofs.Floats.{floats}
 use Rattle.demands.proofs.Hopes.{hopes-hold}
 use Rattle.demands.proofs.States.{state-rule}
+use Rattle.demands.proofs.Decoded.{decoded-rows}
 use Rattle.demands.proofs.Wedges.{wedges-hold}
 use Rattle.demands.specs.Two.{RefusedExactly, WholeRadials, Codes, Trips, Writing, IndexRight, DemandTwo}
 
@@ -106,6 +107,7 @@ demand-two =
       codes = codes;
       rows = row-shown;
       tallies = counted;
+      decoded = decoded-rows;
       wedges = wedges-hold;
       trips = trips;
       writing = writing;

@@ -2,6 +2,7 @@ pub mod Floats
 pub mod Hopes
 pub mod Cuts
 pub mod Wedges
+pub mod Decoded
 pub mod One
 pub mod States
 pub mod Two

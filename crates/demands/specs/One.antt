@@ -20,7 +20,7 @@ use Rattle.gates.specs.declared.Told.{Told}
 use Rattle.gates.specs.Codes.{codesOf}
 use Rattle.gates.specs.Gates.{toldGate, valuesOf}
 use Rattle.gates.specs.Rows.{toldRow, rooms, Rowed}
-use Rattle.gates.specs.Telling.{refused}
+use Rattle.gates.specs.Telling.{refused, answered}
 use Rattle.moment.specs.Moment.{momentAt}
 use Rattle.moments.specs.Moments.{dataAt}
 use Rattle.walk.specs.declared.due.Walk.{Walk}
@@ -42,6 +42,8 @@ use Rattle.ask.specs.Growth.{gateAsked}
 use Rattle.ask.specs.Places.{whereIs}
 use Rattle.ask.specs.Tallies.{tallyOf, cutAccepted, toldTally, tallyAnswer}
 use Rattle.lent.specs.Lending.{lentOf, toldLent}
+use Rattle.decoded.specs.declared.CheckAnswer.{CheckAnswer}
+use Rattle.decoded.specs.Decoded.{Checked, toldCheck, checkAsked}
 use Rattle.index.specs.declared.Answer.{Answer}
 use Rattle.index.specs.declared.Answer.the-variants as index
 use Rattle.index.specs.Answer.{complete, answerOf, Writes}
@@ -59,7 +61,8 @@ pub data Ending (f : List ℕ) : Type 0 where
   is-refused : (n p : ℕ) → told f ≡ 2 ∷ n ∷ p ∷ [] → Ending f
 
 -- a question on a radial that is not whole is refused by 30, on a moment that it does not have by 31, on a gate that this
--- does not have by 32; the place is 0, and the data of a refused moment are empty. What is answered is what was asked for
+-- does not have by 32; the place is 0, and the data of a refused moment are empty. What is answered is what was asked for. A decoded
+-- row is refused by 30 and 31 as a gate is, and by nothing else, whatever the lists
 pub record Questions (f : List ℕ) (n t : ℕ) : Type 0 where
   pub radial : nth (stretches f) n ≡ Nowhere → (radialOfFile f n .number ≡ 30) × (radialOfFile f n .place ≡ 0)
   pub no-radial : nth (stretches f) n ≡ Nowhere → whereIs f n t ≡ NoRadial
@@ -69,6 +72,9 @@ pub record Questions (f : List ℕ) (n t : ℕ) : Type 0 where
   pub gate-31 : (i : ℕ) → whereIs f n t ≡ NoMoment → gateAsked f n t i ≡ refused 31 0
   pub gate-32 : (i : ℕ) (s : Stretch) (p : ℕ) → whereIs f n t ≡ At s p
       → length (codesOf (momentAt (bytesOf f s) p .«bin_length») (dataAt (bytesOf f s) p)) ≤ i → gateAsked f n t i ≡ refused 32 0
+  pub check-30 : (k : List ℕ) (h : List ℤ) → whereIs f n t ≡ NoRadial → checkAsked f n t k h ≡ refused 30 0
+  pub check-31 : (k : List ℕ) (h : List ℤ) → whereIs f n t ≡ NoMoment → checkAsked f n t k h ≡ refused 31 0
+  pub checked : (k : List ℕ) (h : List ℤ) (s : Stretch) (p : ℕ) → whereIs f n t ≡ At s p → (x : Checked) × (checkAsked f n t k h ≡ answered x)
   pub as-asked : AsAsked f n t
 
 -- a row is refused by 30 and 31 as a gate is, and then by 33 where either buffer is too short, all with place 0
@@ -108,7 +114,7 @@ pub record WriterRefuses (b : Block) (w : Walk) (room : List ℕ) : Type 0 where
       → (m : Walk) → saysOf b room w ≡ step.Took m → fitsOf b w ≡ true → length room < w .at + lengthOf b → put b w room .answer ≡ Refused 33 (w .at)
 
 -- after a refusal the writer's state and room, the buffers of a row, the tally record and the room of an index or of a
--- record are what they were
+-- record are what they were; a decoded row is lent to be read alone
 pub record Unchanged : Type 0 where
   pub put : (b : Block) (w : Walk) (room : List ℕ) (n p : ℕ) → put b w room .answer ≡ Refused n p → (put b w room .walk ≡ w) × (put b w room .room ≡ room)
   pub put-on : (b : Block) (w : Walk) (room : List ℕ) (n p : ℕ) → putOn b w room .answer ≡ Refused n p
@@ -119,13 +125,15 @@ pub record Unchanged : Type 0 where
   pub block : (n : ℕ) (room : List ℕ) (at : ℕ) (bs : List ℕ) → length room < at + n → stored n room at bs ≡ room
 
 -- two results that keep one promise are the same: those of reading, of a gate, of what is told of it and of its answer, of
--- a row with its buffers, of codes and of a file, of a tally, of an index and of a put with its room; every other promise is an equation
+-- a row with its buffers, of codes and of a file, of a decoded row, of a tally, of an index and of a put with its room; every other
+-- promise is an equation
 pub record Determined : Type 0 where
   pub verdict : (a b : Verdict) → verdictTold a ≡ verdictTold b → a ≡ b
   pub reading : (f : List ℕ) (a b : Reading) → Tells f a → Tells f b → a ≡ b
   pub gate : (a b : Gate) → toldGate a ≡ toldGate b → a ≡ b
   pub gate-told : (a b : Told) → valuesOf a ≡ valuesOf b → a ≡ b
   pub gate-asked : (a b : GateAnswer) → toldGateAnswer a ≡ toldGateAnswer b → a ≡ b
+  pub check : (a b : CheckAnswer) → toldCheck a ≡ toldCheck b → a ≡ b
   pub tally : (a b : TallyAnswer) → toldTally a ≡ toldTally b → a ≡ b
   pub row : (c : Coding) (codes k : List ℕ) (h : List ℤ) (a b : RowAnswer) (k₁ k₂ : List ℕ) (h₁ h₂ : List ℤ) → Rowed c codes k h a k₁ h₁ → Rowed c codes k h b k₂ h₂
       → (a ≡ b) × (k₁ ≡ k₂) × (h₁ ≡ h₂)

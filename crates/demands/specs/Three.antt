@@ -5,6 +5,7 @@ use Prim.Native.Nat.{ℕ, _<_}
 use lib.ListN.{length}
 use Rattle.reading.specs.Growth.{Grows}
 use Rattle.ask.specs.Growth.{AnswersGrow}
+use Rattle.decoded.specs.Growth.{ChecksGrow}
 
 pub record Growth (A C : List ℕ) : Type 0 where
   -- radials and verdicts: the whole radials of A begin those of B, with the same bytes; refused stays refused, complete
@@ -13,6 +14,8 @@ pub record Growth (A C : List ℕ) : Type 0 where
   -- answers: each one on a radial whole in A is the same in B; what a gate's 30 and a tally may turn into; a tally keeps its wedge, and
   -- none of its counts falls
   pub answers : AnswersGrow A C
+  -- what is said of a decoded row of a radial whole in A is said in B
+  pub checks : ChecksGrow A C
 
 abbrev pub DemandThree : Type 0
 DemandThree = (A C : List ℕ) → 0 < length C → Growth A C
