@@ -10,24 +10,15 @@ use native.Mathlib.Nat.{min-le-left, min-le-right, min-eq-left, min-eq-right}
 use native.Mathlib.Omega.{arith}
 use borrow.Author.Tests.{eq-eqb, eqb-true}
 use lib.Dec.{eqb}
-use lib.IntN.{ℤ, pos, negsuc}
+use lib.IntN.{ℤ, pos}
 use lib.ListN.{length, getD, length-map, List·getD-map}
 use Rattle.le.proofs.Tests.{both}
 use Rattle.gates.specs.declared.Coding.{Coding}
 use Rattle.gates.specs.Gates.{kindOf}
 use Rattle.gates.specs.Rows.{shownOf, rowKinds, rowHundredths}
 use Rattle.decoded.specs.Decoded.{eqℤ, alike, agreed}
+use Rattle.decoded.proofs.Signs.{eqℤ-own, eqℤ-true}
 use Rattle.decoded.proofs.Alike.{within, passes, fails-there}
-
-pub eqℤ-true : (x y : ℤ) → eqℤ x y ≡ true → x ≡ y
-eqℤ-true (pos m) (pos n) e = ap pos (eqb-true m n e)
-eqℤ-true (pos m) (negsuc n) e = absurd (false≢true e)
-eqℤ-true (negsuc m) (pos n) e = absurd (false≢true e)
-eqℤ-true (negsuc m) (negsuc n) e = ap negsuc (eqb-true m n e)
-
-pub eqℤ-own : (x : ℤ) → eqℤ x x ≡ true
-eqℤ-own (pos m) = eq-eqb m m refl
-eqℤ-own (negsuc m) = eq-eqb m m refl
 
 -- gate i is there in the row and in both lists, and they have it alike
 pub record Alike (c : Coding) (codes k : List ℕ) (h : List ℤ) (i : ℕ) : Type 0 where

@@ -1,5 +1,6 @@
 pub mod Agreed
 pub mod Alike
+pub mod Bounds
 pub mod Checked
 pub mod Exactly
 pub mod Grown

@@ -13,9 +13,9 @@ use Rattle.gates.specs.declared.Coding.{Coding}
 use Rattle.gates.specs.Gates.{kindOf}
 use Rattle.gates.specs.Rows.{shownOf, rowKinds, rowHundredths}
 use Rattle.decoded.specs.Decoded.{eqℤ, alike, agreed}
-use Rattle.decoded.proofs.Agreed.{eqℤ-own, eqℤ-true}
 use Rattle.decoded.proofs.Alike.{within, whole, longer, shorter}
 use Rattle.decoded.proofs.Checked.{Ends}
+use Rattle.decoded.proofs.Signs.{eqℤ-own, eqℤ-true}
 
 module _ (c : Coding) (codes : List ℕ) where
   abbrev kinds : List ℕ

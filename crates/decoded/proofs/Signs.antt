@@ -1,66 +1,59 @@
--- What the tests on a signed number of 32 bits say, and when a number of some size and sign is a given one. Assumes nothing.
-use mathlib.Core.Bool.{Bool, true, false, false≢true}
+-- Signed numbers: the test of two of them, and those of 32 bits raised by 2^31. Assumes nothing.
+use mathlib.Core.Bool.{true, false≢true}
 use mathlib.Core.Path.{_≡_, refl, sym, ap, _∙_}
-use Prim.Native.Nat.{ℕ, zero, suc, _-_, _^_, _<_}
+use Prim.Native.Nat.{ℕ, suc, _+_, _-_, _^_, _<_}
 use native.Mathlib.Omega.{arith}
-use borrow.Author.Tests.{le-ltb, lt-ltb, ne-eqb}
+use borrow.Author.Tests.{le-ltb, eq-eqb, ne-eqb, eqb-true}
 use lib.Dec.{eqb}
-use lib.IntN.{ℤ, pos, negsuc, negℤ, natAbs}
-use lib.Signed.{ltZ}
-use mir.Syntax.{w32}
-use mir.Val.{SFits, toZ, ofZ}
-use mir.Facts.{toZ-pos, toZ-ofZ}
+use lib.IntN.{ℤ, pos, negsuc, _+ℤ_}
+use mir.Syntax.{w32, w64}
+use mir.Val.{SFits, ofZ}
 use Rattle.le.proofs.Tests.{eqb-same}
 use Rattle.decoded.specs.Decoded.{eqℤ}
 
--- a test is made on the number that the bits say
-pub tested : (z : ℤ) → SFits w32 z → (g : ℤ → Bool) {b : Bool} → g (toZ w32 (ofZ w32 z)) ≡ b → g z ≡ b
-tested z f g e = ap g (sym (toZ-ofZ f)) ∙ e
+-- ---- the test of two numbers
 
--- ---- the size
+pub eqℤ-true : (x y : ℤ) → eqℤ x y ≡ true → x ≡ y
+eqℤ-true (pos m) (pos n) e = ap pos (eqb-true m n e)
+eqℤ-true (pos m) (negsuc n) e = absurd (false≢true e)
+eqℤ-true (negsuc m) (pos n) e = absurd (false≢true e)
+eqℤ-true (negsuc m) (negsuc n) e = ap negsuc (eqb-true m n e)
 
-pub below : (z : ℤ) → SFits w32 z → ltZ z (pos 0) ≡ true → (n : ℕ) × (z ≡ negsuc n) × (n < 2 ^ 31)
-below (pos n) f e = absurd (false≢true (sym (le-ltb n 0 (omega arith)) ∙ e))
-below (negsuc n) f e = (n, refl, f .sfits)
+pub eqℤ-own : (x : ℤ) → eqℤ x x ≡ true
+eqℤ-own (pos m) = eq-eqb m m refl
+eqℤ-own (negsuc m) = eq-eqb m m refl
 
-pub not-below : (z : ℤ) → SFits w32 z → ltZ z (pos 0) ≡ false → (n : ℕ) × (z ≡ pos n) × (n < 2 ^ 31)
-not-below (pos n) f e = (n, refl, f .sfits)
-not-below (negsuc n) f e = absurd (false≢true (sym e))
+-- ---- raised
 
--- the complement of a number below 0 is one short of its size
-pub complement : (n : ℕ) → n < 2 ^ 31 → toZ w32 (4294967295 - (4294967296 - suc n)) ≡ pos n
-complement n h =
-    let back : 4294967295 - (4294967296 - suc n) ≡ n = omega arith in
-    ap (toZ w32) back ∙ toZ-pos w32 h
+-- a wider type has room for it
+pub wide : (z : ℤ) → SFits w32 z → SFits w64 z
+wide (pos n) f = let h = f .sfits in record { sfits = omega arith }
+wide (negsuc n) f = let h = f .sfits in record { sfits = omega arith }
 
--- ---- a number of size m, from 0 on
+-- it is not below 0 any more, and has 32 bits
+pub raised : (z : ℤ) → SFits w32 z → (n : ℕ) × (z +ℤ pos 2147483648 ≡ pos n) × (n < 2 ^ 32)
+raised (pos n) f = let h = f .sfits in (n + 2147483648, refl, omega arith)
+raised (negsuc n) f = let h = f .sfits in (2147483648 - suc n, rw (le-ltb 2147483648 (suc n) (omega arith)), omega arith)
 
-pub from-zero : (m : ℕ) (z : ℤ) → ltZ z (pos 0) ≡ false → eqℤ (pos m) z ≡ eqb m (natAbs z)
-from-zero m (pos n) e = refl
-from-zero m (negsuc n) e = absurd (false≢true (sym e))
+pub raised-small : (z : ℤ) → SFits w32 z → (r : ℕ) → pos r ≡ z +ℤ pos 2147483648 → r < 2 ^ 32
+raised-small z f r e =
+    let n = raised z f in
+    let x : pos r ≡ pos (n .0) = e ∙ n .1 in
+    let y : r ≡ n .0 = cc in
+    let h = n .2 in
+    omega arith
 
-pub from-zero-not : (m : ℕ) (z : ℤ) → ltZ z (pos 0) ≡ true → eqℤ (pos m) z ≡ false
-from-zero-not m (pos n) e = absurd (false≢true (sym (le-ltb n 0 (omega arith)) ∙ e))
-from-zero-not m (negsuc n) e = refl
+pub raised-pos : (n r : ℕ) → pos r ≡ pos n +ℤ pos 2147483648 → r ≡ n + 2147483648
+raised-pos n r e = cc
 
--- ---- and up to 0
+pub raised-neg : (n r : ℕ) → SFits w32 (negsuc n) → pos r ≡ negsuc n +ℤ pos 2147483648 → r + suc n ≡ 2147483648
+raised-neg n r f e =
+    let h = f .sfits in
+    let x : pos r ≡ pos (2147483648 - suc n) = rw (le-ltb 2147483648 (suc n) (omega arith)) at e in
+    let y : r ≡ 2147483648 - suc n = cc in
+    omega arith
 
-pub to-zero : (m : ℕ) (z : ℤ) → ltZ (pos 0) z ≡ false → eqℤ (negℤ (pos m)) z ≡ eqb m (natAbs z)
-to-zero zero (pos n) e = refl
-to-zero zero (negsuc n) e = sym (ne-eqb 0 (suc n) (λ x. omega arith))
-to-zero (suc m) (pos zero) e = sym (ne-eqb (suc m) 0 (λ x. omega arith))
-to-zero (suc m) (pos (suc n)) e = absurd (false≢true (sym e ∙ lt-ltb 0 (suc n) (omega arith)))
-to-zero (suc m) (negsuc n) e = eqb-same m n (suc m) (suc n) (λ x. omega arith) (λ x. omega arith)
-
-pub to-zero-not : (m : ℕ) (z : ℤ) → ltZ (pos 0) z ≡ true → eqℤ (negℤ (pos m)) z ≡ false
-to-zero-not zero (pos zero) e = absurd (false≢true (sym (le-ltb 0 0 (omega arith)) ∙ e))
-to-zero-not zero (pos (suc n)) e = ne-eqb 0 (suc n) (λ x. omega arith)
-to-zero-not zero (negsuc n) e = refl
-to-zero-not (suc m) (pos n) e = refl
-to-zero-not (suc m) (negsuc n) e = absurd (false≢true e)
-
--- ---- 0 itself
-
+-- the bits of 0, and of no other
 pub is-zero : (z : ℤ) → SFits w32 z → eqb (ofZ w32 z) 0 ≡ eqℤ (pos 0) z
 is-zero (pos n) f = eqb-same n 0 0 n sym sym
 is-zero (negsuc n) f = ne-eqb (4294967296 - suc n) 0 (λ e. let h = f .sfits in omega arith)

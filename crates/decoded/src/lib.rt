@@ -1,12 +1,12 @@
 // Rows that somebody decoded, checked against a file's own (document 02, #112). Both lists are read alone, in one pass with the
 // moment's codes that ends at the first difference; no row is made, and nothing is divided.
 ghost use mathlib.Core.Path.{_≡_};
-ghost use mathlib.Core.Bool.{_&&_};
+ghost use mathlib.Core.Bool.{cond, _&&_};
 ghost use Prim.Native.Nat.{min};
 ghost use lib.Dec.{eqb};
-ghost use lib.IntN.{natAbs};
+ghost use lib.IntN.{pos, _+ℤ_};
 ghost use Rattle.gates.specs.Codes.{codesOf};
-ghost use Rattle.gates.specs.Gates.{magnitudeOf, hundredthsOf, kindOf};
+ghost use Rattle.gates.specs.Gates.{hundredthsOf, kindOf};
 ghost use Rattle.gates.specs.Rows.{shownOf};
 ghost use Rattle.gates.specs.Telling.{answered};
 ghost use Rattle.ask.specs.Places.{whereIs};
@@ -28,43 +28,36 @@ pub enum CheckAnswer {
 
 // ---- a gate
 
-fn size(z: i32) -> u32
-    ensures { λ r. ⌜ r ≡ natAbs z ⌝ }
+// 2^31 more, so that it is below 0 no longer.
+fn raised(h: i32) -> u64
+    ensures { λ r. ⌜ pos r ≡ h +ℤ pos 2147483648 ⌝ }
 {
-    if z < 0 { !z as u32 + 1 } else { z as u32 }
+    (h as i64 + 0x8000_0000) as u64
 }
 
-// Whether 100 * n / scale, to the nearest whole number, is m: whether m times the scale is as near to it, which needs no division.
-fn is_magnitude(n: u16, scale: u16, m: u32) -> bool
-    ensures { λ r. ⌜ r ≡ eqb (magnitudeOf n scale) m ⌝ }
-{
-    if scale == 0 {
-        return m == 0;
-    }
-    let twice = 2 * (scale as u64);
-    let all = 200 * (n as u64) + scale as u64;
-    let part = twice * (m as u64);
-    if all < part {
-        return false;
-    }
-    all - part < twice
-}
-
-// Whether a value has these hundredths: they have the difference's sign, or are 0, and its size.
+// Whether a value has these hundredths. They are the nearest whole number h to 100 * (code - offset) / scale where 2 * scale * h is at
+// most 200 * (code - offset) + scale, and 2 * scale * (h + 1) is above it. Both sides are raised by the same, so that nothing is below
+// 0, and below the offset h's by one more, since a half goes away from zero there too.
 fn is_hundredths(c: Coding, code: u16, h: i32) -> bool
     ensures { λ r. ⌜ r ≡ eqℤ (hundredthsOf c code) h ⌝ }
 {
-    let offset = c.offset;
-    if code < offset {
-        if 0 < h {
-            return false;
-        }
-        return is_magnitude(offset - code, c.scale, size(h));
+    if c.scale == 0 {
+        return h == 0;
     }
-    if h < 0 {
+    let twice = 2 * (c.scale as u64);
+    let value = 200 * (code as u64) + c.scale as u64 + twice * 0x8000_0000;
+    let least = 200 * (c.offset as u64) + (code < c.offset) as u64 + twice * raised(h);
+    if value < least {
         return false;
     }
-    is_magnitude(code - offset, c.scale, size(h))
+    value - least < twice
+}
+
+// The code of a value; for any other gate the offset, which is 0 hundredths.
+fn measured(c: Coding, kind: u8, code: u16) -> u16
+    ensures { λ r. ⌜ r ≡ cond (eqb kind 5) code (c .offset) ⌝ }
+{
+    if kind == Gate::VALUE { code } else { c.offset }
 }
 
 // Whether a row shows a code so.
@@ -76,10 +69,7 @@ fn shows(c: Coding, code: u16, kind: u8, h: i32) -> bool
     if own != kind {
         return false;
     }
-    if own == Gate::VALUE {
-        return is_hundredths(c, code, h);
-    }
-    h == 0
+    is_hundredths(c, measured(c, own, code), h)
 }
 
 // ---- a row

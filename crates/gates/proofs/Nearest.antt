@@ -20,7 +20,7 @@ nearest-size {d} {scale} {h} p = magnitude-one (natAbs d) scale (natAbs h) (p .a
 pub nearest-one : {d : ℤ} {scale : ℕ} {h h′ : ℤ} → Nearest d scale h → Nearest d scale h′ → h ≡ h′
 nearest-one {d} p q = p .sign ∙ ap (like d) (sym (nearest-size p) ∙ nearest-size q) ∙ sym (q .sign)
 
-pub near : (n scale : ℕ) → 0 < scale → (magnitudeOf n scale * (2 * scale) ≤ 200 * n + scale) × (200 * n < magnitudeOf n scale * (2 * scale) + scale)
+near : (n scale : ℕ) → 0 < scale → (magnitudeOf n scale * (2 * scale) ≤ 200 * n + scale) × (200 * n < magnitudeOf n scale * (2 * scale) + scale)
 unfolding magnitudeOf
 near n scale h =
     let e = mod-add-div' (200 * n + scale) (2 * scale) in

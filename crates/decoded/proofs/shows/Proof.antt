@@ -1,11 +1,14 @@
-use mathlib.Core.Path.{_≡_, sym, ap, _∙_}
+use mathlib.Core.Bool.{cond}
+use mathlib.Core.Path.{_≡_, sym, ap, ap₂, _∙_}
 use Prim.Native.Nat.{ℕ}
 use borrow.Author.Needs.{needs}
 use borrow.Author.Tests.{eq-eqb, ne-eqb}
+use lib.Dec.{eqb}
+use lib.IntN.{ℤ}
 use mir.Facts.{toZ-ofZ}
 use Rattle.gates.specs.Gates.{toldOf, kindOf, hundredthsOf, Carried}
 use Rattle.decoded.specs.Decoded.{eqℤ}
-use Rattle.decoded.proofs.Signs.{is-zero}
+use Rattle.decoded.proofs.Bounds.{measured-shows}
 use Rattle.decoded.proofs.shows.Statement.{statement}
 use Rattle.decoded.proofs.shows.Tie as tie
 
@@ -25,20 +28,14 @@ returns-2 c =
     let s = k .before .before in
     let a = s .args in
     let e = own k in
-    rw (eq-eqb (kindOf (a .c) (a .code)) (a .kind) (sym e ∙ c .before .before .if1 .left), eq-eqb (kindOf (a .c) (a .code)) 5 (sym e ∙ c .before .if2 .taken))
-    (c .is-hundredths .ensures ∙ ap (eqℤ (hundredthsOf (a .c) (a .code))) (toZ-ofZ (s .fits .h)))
-
-returns-3 : tie.Need-returns-3
-unfolding toldOf
-returns-3 c =
-    let k = c .before .before in
-    let s = k .before .before in
-    let a = s .args in
-    let e = own k in
-    rw (eq-eqb (kindOf (a .c) (a .code)) (a .kind) (sym e ∙ c .before .if1 .left), ne-eqb (kindOf (a .c) (a .code)) 5 (λ x. c .if2 .left (e ∙ x)))
-    (is-zero (a .h) (s .fits .h))
+    rw (eq-eqb (kindOf (a .c) (a .code)) (a .kind) (sym e ∙ c .before .before .if1 .left))
+    (c .is-hundredths .ensures
+    ∙ ap₂ (λ (m : ℕ) (h : ℤ). eqℤ (hundredthsOf (a .c) m) h)
+    (c .before .measured .ensures ∙ ap (λ (x : ℕ). cond (eqb x 5) (a .code) (a .c .offset)) e)
+    (toZ-ofZ (s .fits .h))
+    ∙ ap (λ (x : ℤ). eqℤ x (a .h)) (measured-shows (a .c) (a .code) (eqb (kindOf (a .c) (a .code)) 5)))
 
 pub shows-spec : {M : Type 1} → statement M
 shows-spec =
     tie.close
-    (tie.spec (λ c κs. search needs) (λ c κs. search needs) returns (λ c κs. search needs) returns-2 returns-3)
+    (tie.spec (λ c κs. search needs) (λ c κs. search needs) returns (λ c κs. search needs) (λ c κs. search needs) returns-2)
