@@ -23,6 +23,9 @@ NOT_SUC = '''not-suc : (a b : ℕ) → not (leb (a + 1) b) ≡ leb b a
 not-suc a b = dite (decLt b (a + 1)) (λ h. rw (lt-leb (a + 1) b h, le-leb b a (omega arith))) (λ h. rw (le-leb (a + 1) b (omega arith), lt-leb b a (omega arith)))
 
 '''
+SAME_KINDS, ENOUGH_KINDS = 'eqb (length k) (length codes)', 'leb (length codes) (length k)'
+SAME_HUNDREDTHS, ENOUGH_HUNDREDTHS = 'eqb (length h) (length codes)', 'leb (length codes) (length h)'
+CHECKED, COMPARE = (f'crates/decoded/proofs/{path}.antt' for path in ('Checked', 'compare/Proof'))
 
 SLIPS = {
     # every radial judged by the masks of cut 1 (numbers 20 and 23)
@@ -202,6 +205,31 @@ SLIPS = {
         ('crates/coming/proofs/Radials.antt', 'rw (le-ltb number 1000 h)', 'rw (lt-leb number 1000 h)'),
         ('crates/coming/proofs/Radials.antt', 'rw (lt-leb (sequence + 1 + 2 * (cuts - cut)) 65536 (omega arith)) (sym (and-false (ltb number 1000)))',
          'rw (lt-leb (sequence + 1 + 2 * (cuts - cut)) 65536 (omega arith)) (sym (and-false (leb number 1000)))'),
+    ],
+    # a decoded row that goes on behind the row let through (document 02, #112)
+    'longer_let_through': [
+        ('crates/decoded/specs/Decoded.antt', f'{SAME_KINDS} && {SAME_HUNDREDTHS}', f'{ENOUGH_KINDS} && {ENOUGH_HUNDREDTHS}'),
+        ('crates/decoded/specs/Decoded.antt', 'use lib.Dec.{eqb}', 'use lib.Dec.{eqb, leb}'),
+        ('crates/decoded/src/lib.rt', 'if kinds.len() == n', 'if n <= kinds.len()'),
+        ('crates/decoded/src/lib.rt', 'if hundredths.len() == n', 'if n <= hundredths.len()'),
+        (CHECKED, 'length k ≡ length codes', 'length codes ≤ length k'),
+        (CHECKED, 'length h ≡ length codes', 'length codes ≤ length h'),
+        (CHECKED, 'eqb-true (length k) (length codes)', 'leb-true (length codes) (length k)'),
+        (CHECKED, 'eqb-true (length h) (length codes)', 'leb-true (length codes) (length h)'),
+        (CHECKED, 'eq-eqb (length k) (length codes)', 'le-leb (length codes) (length k)'),
+        (CHECKED, 'eq-eqb (length h) (length codes)', 'le-leb (length codes) (length h)'),
+        (CHECKED, SAME_KINDS, ENOUGH_KINDS),
+        (CHECKED, SAME_HUNDREDTHS, ENOUGH_HUNDREDTHS),
+        (CHECKED, 'use borrow.Author.Tests.{eq-eqb, eqb-true}', 'use borrow.Author.Tests.{eq-eqb, eqb-true, le-leb, leb-true}'),
+        (CHECKED, 'use lib.Dec.{eqb}', 'use lib.Dec.{eqb, leb}'),
+        (CHECKED, 'use Prim.Native.Nat.{ℕ}', 'use Prim.Native.Nat.{ℕ, _≤_}'),
+        (COMPARE, 'c .if3 .left (let h = e .hundredths in omega arith)', 'let h = e .hundredths in let l = c .if3 .left in omega arith'),
+        (COMPARE, 'c .if2 .left (let k = e .kinds in omega arith)', 'let k = e .kinds in let l = c .if2 .left in omega arith'),
+    ],
+    # 31 for a radial that is not there (document 02, #112)
+    'thirty_one_for_thirty': [
+        ('crates/decoded/specs/Decoded.antt', 'checkTold f NoRadial k h = refused 30 0', 'checkTold f NoRadial k h = refused 31 0'),
+        ('crates/decoded/src/lib.rt', 'Where::NoRadial => CheckAnswer::Refused(30)', 'Where::NoRadial => CheckAnswer::Refused(31)'),
     ],
     # the types seen not cleared at a new radial (number 20)
     'seen_not_cleared': [
