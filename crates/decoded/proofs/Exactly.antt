@@ -1,14 +1,13 @@
 -- What the answer on a decoded row means: specs/Exactly, of every file and every two lists. Assumes nothing.
-use Prim.Native.Nat.{ℕ, _+_, _≤_, _<_, min}
+use Prim.Native.Nat.{ℕ, _≤_, _<_}
 use native.Mathlib.Decide.{decLt}
 use native.Mathlib.Omega.{arith}
-use mathlib.Core.Bool.{Bool, true, false}
-use mathlib.Core.List.{List, _++_}
-use mathlib.Core.Logic.{_↔_, dite}
+use mathlib.Core.List.{List}
+use mathlib.Core.Logic.{dite}
 use mathlib.Core.Path.{_≡_, refl, sym, ap, subst, _∙_}
 use borrow.Author.Tests.{lt-ltb, le-ltb}
-use lib.IntN.{ℤ, pos}
-use lib.ListN.{length, getD, take}
+use lib.IntN.{ℤ}
+use lib.ListN.{length, getD}
 use Rattle.moment.specs.declared.Moment.{Moment}
 use Rattle.moment.specs.Moment.{momentAt}
 use Rattle.gates.specs.declared.Coding.{Coding}
@@ -23,30 +22,39 @@ use Rattle.ask.specs.Answers.{codingOf, gateIn, gateTold}
 use Rattle.ask.specs.Growth.{gateAsked}
 use Rattle.ask.specs.Places.{whereIs}
 use Rattle.decoded.specs.Decoded.{agreed, Checked, same, differs, checked, checkTold, checkAsked}
-use Rattle.decoded.specs.Exactly.{There, Agrees, Ended, IsRow, FirstApart}
+use Rattle.decoded.specs.Exactly.{There, Agrees, IsRow, FirstApart}
 use Rattle.decoded.proofs.Agreed.{Alike, before, there, first}
 use Rattle.decoded.proofs.Checked.{Ends, checked-same, checked-differs, ends-or}
 
 -- ---- where the moment is
 
+pub there-or : {P : Type 0} (f : List ℕ) (n t : ℕ) → (whereIs f n t ≡ NoRadial → P) → (whereIs f n t ≡ NoMoment → P) → (There f n t → P) → P
+there-or {P} f n t no-radial no-moment is = go (whereIs f n t) refl
+  where
+    go : (w : Where) → whereIs f n t ≡ w → P
+    go NoRadial q = no-radial q
+    go NoMoment q = no-moment q
+    go (At s p) q = is (record { stretch = s; place = p; at = q })
+
+-- a refusal is no answer, and no other refusal
+clash : (number : ℕ) (x : Checked) → refused number 0 ≡ answered x → ⊥
+clash number x e = let z : _≡_ {A = ℕ} 0 1 = cc in omega arith
+
+refused-one : (a b : ℕ) → _≡_ {A = Telling Values} (refused a 0) (refused b 0) → a ≡ b
+refused-one a b e = cc
+
 -- what is answered of a moment is answered of one that is there
 pub found : (f : List ℕ) (n t : ℕ) (k : List ℕ) (h : List ℤ) (x : Checked) → checkAsked f n t k h ≡ answered x → There f n t
 unfolding checkTold
-found f n t k h x e = go (whereIs f n t) refl e
-  where
-    go : (w : Where) → whereIs f n t ≡ w → checkTold f w k h ≡ answered x → There f n t
-    go NoRadial q y = absurd (let z : _≡_ {A = ℕ} 0 1 = cc in omega arith)
-    go NoMoment q y = absurd (let z : _≡_ {A = ℕ} 0 1 = cc in omega arith)
-    go (At s p) q y = record { stretch = s; place = p; at = q }
+found f n t k h x e = there-or f n t (λ q. absurd (clash 30 x (rw q at e))) (λ q. absurd (clash 31 x (rw q at e))) (λ w. w)
 
 pub found-32 : (f : List ℕ) (n t i : ℕ) → gateAsked f n t i ≡ refused 32 0 → There f n t
 unfolding gateTold
-found-32 f n t i e = go (whereIs f n t) refl e
-  where
-    go : (w : Where) → whereIs f n t ≡ w → gateTold f w i ≡ refused 32 0 → There f n t
-    go NoRadial q y = absurd (let z : _≡_ {A = ℕ} 30 32 = cc in omega arith)
-    go NoMoment q y = absurd (let z : _≡_ {A = ℕ} 31 32 = cc in omega arith)
-    go (At s p) q y = record { stretch = s; place = p; at = q }
+found-32 f n t i e =
+    there-or f n t
+    (λ q. absurd (let z = refused-one 30 32 (rw q at e) in omega arith))
+    (λ q. absurd (let z = refused-one 31 32 (rw q at e) in omega arith))
+    (λ w. w)
 
 -- ---- the moment that is there, by its codes
 

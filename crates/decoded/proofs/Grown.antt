@@ -5,9 +5,7 @@ use mathlib.Core.Logic.{_⊎_, inl, inr}
 use mathlib.Core.Path.{_≡_, refl, sym, ap, _∙_}
 use lib.IntN.{ℤ}
 use lib.ListN.{length}
-use Rattle.moment.specs.declared.Moment.{Moment}
-use Rattle.gates.specs.Codes.{codesOf}
-use Rattle.gates.specs.Telling.{Telling, refused, answered}
+use Rattle.gates.specs.Telling.{refused}
 use Rattle.reading.specs.declared.Found.{Found}
 use Rattle.reading.specs.declared.Found.the-variants as found
 use Rattle.reading.specs.declared.Stretch.{Stretch}
@@ -15,11 +13,11 @@ use Rattle.reading.specs.Reading.{stretches, nth}
 use Rattle.ask.specs.declared.answers.MomentAnswer.{MomentAnswer}
 use Rattle.ask.specs.declared.places.Where.{Where}
 use Rattle.ask.specs.declared.places.Where.the-variants.{At, NoRadial, NoMoment}
-use Rattle.ask.specs.Answers.{momentTold, dataTold, codingOf}
+use Rattle.ask.specs.Answers.{momentTold, dataTold}
 use Rattle.ask.specs.Growth.{Kept}
 use Rattle.ask.specs.Places.{inFound, whereIs}
 use Rattle.ask.proofs.Grown.{answers-grow}
-use Rattle.decoded.specs.Decoded.{Checked, checked, checkTold, checkAsked}
+use Rattle.decoded.specs.Decoded.{checkTold, checkAsked}
 use Rattle.decoded.specs.Growth.{ChecksGrow}
 
 -- the answer by the moment's header and data, which two files may share

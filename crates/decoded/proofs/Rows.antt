@@ -2,8 +2,7 @@
 use Prim.Native.Nat.{ℕ, _+_, _<_, min}
 use native.Mathlib.Omega.{arith}
 use mathlib.Core.Bool.{true}
-use mathlib.Core.List.{List, [], _++_, append-nil}
-use mathlib.Core.Logic.{_↔_}
+use mathlib.Core.List.{List, _++_, append-nil}
 use mathlib.Core.Path.{_≡_, refl, sym, ap, subst, _∙_}
 use borrow.Author.Tests.{le-leb}
 use lib.IntN.{ℤ}
@@ -13,18 +12,15 @@ use Rattle.gates.specs.declared.Coding.{Coding}
 use Rattle.gates.specs.declared.RowAnswer.{RowAnswer}
 use Rattle.gates.specs.declared.RowAnswer.the-variants.{Filled}
 use Rattle.gates.specs.Rows.{toldRow, rowKinds, rowHundredths, rooms, filled, Rowed}
-use Rattle.gates.specs.Telling.{Telling, refused, answered}
+use Rattle.gates.specs.Telling.{answered}
 use Rattle.gates.proofs.Rows.{IsFilled, row-filled}
-use Rattle.ask.specs.declared.places.Where.{Where}
-use Rattle.ask.specs.declared.places.Where.the-variants.{At, NoRadial, NoMoment}
-use Rattle.ask.specs.Answers.{RowTold}
+use Rattle.ask.specs.Answers.{Unfilled, RowTold}
 use Rattle.ask.specs.Growth.{rowAsked}
-use Rattle.ask.specs.Places.{whereIs}
 use Rattle.ask.proofs.Shown.{not-filled}
 use Rattle.decoded.specs.Decoded.{agreed, Checked, same, differs, checkAsked}
 use Rattle.decoded.specs.Exactly.{There, Exactly, FilledIsRow}
 use Rattle.decoded.proofs.Checked.{Ends, checked-differs}
-use Rattle.decoded.proofs.Exactly.{coding, codes, found, found-32, is-checked, ends-row, row-ends, is-same, same-ends, differs-first, first-differs}
+use Rattle.decoded.proofs.Exactly.{coding, codes, there-or, found, found-32, is-checked, ends-row, row-ends, is-same, same-ends, differs-first, first-differs}
 use Rattle.decoded.proofs.Lists.{many-kinds, many-hundredths, agreed-longer, agreed-shorter, own-ends, ends-own}
 
 module _ {A : Type 0} where
@@ -38,12 +34,9 @@ module _ {A : Type 0} where
 -- a row that was answered is one of a moment that is there
 row-there : (f : List ℕ) (n t m : ℕ) (k k′ : List ℕ) (h h′ : List ℤ) (r : RowAnswer) → toldRow r ≡ answered m → rowAsked f n t k h r k′ h′ → There f n t
 unfolding RowTold
-row-there f n t m k k′ h h′ r e x = go (whereIs f n t) refl x
-  where
-    go : (w : Where) → whereIs f n t ≡ w → RowTold f w k h r k′ h′ → There f n t
-    go NoRadial q y = absurd (not-filled r m 30 e (y .answer))
-    go NoMoment q y = absurd (not-filled r m 31 e (y .answer))
-    go (At s p) q y = record { stretch = s; place = p; at = q }
+row-there f n t m k k′ h h′ r e x =
+    let no : (number : ℕ) → Unfilled number k h r k′ h′ → There f n t = λ number y. absurd (not-filled r m number e (y .answer)) in
+    there-or f n t (λ q. no 30 (rw q at x)) (λ q. no 31 (rw q at x)) (λ w. w)
 
 module _ (f : List ℕ) (n t : ℕ) (w : There f n t) where
   abbrev c : Coding

@@ -1,11 +1,10 @@
 -- What is said of a row that somebody decoded (document 02, #112): the row of a file, as two lists, against two lent ones.
-use Prim.Native.Nat.{ℕ, zero, suc, min}
+use Prim.Native.Nat.{ℕ, suc, min}
 use mathlib.Core.Bool.{Bool, false, cond, _&&_}
 use mathlib.Core.List.{List, [], _∷_}
 use lib.Dec.{eqb}
 use lib.IntN.{ℤ, pos, negsuc}
 use lib.ListN.{length}
-use Rattle.moment.specs.declared.Moment.{Moment}
 use Rattle.moment.specs.Moment.{momentAt}
 use Rattle.gates.specs.declared.Coding.{Coding}
 use Rattle.gates.specs.Codes.{codesOf}
@@ -27,11 +26,11 @@ eqℤ (pos m) (negsuc n) = false
 eqℤ (negsuc m) (pos n) = false
 eqℤ (negsuc m) (negsuc n) = eqb m n
 
--- how many entries two lists have alike, from their fronts: up to the first at which they differ or one of them ends
+-- how many entries two lists have alike by a test, from their fronts: up to the first at which they differ or one of them ends
 unfoldable pub alike : {A : Type 0} → (A → A → Bool) → List A → List A → ℕ
-alike same [] ys = 0
-alike same (x ∷ xs) [] = 0
-alike same (x ∷ xs) (y ∷ ys) = cond (same x y) (suc (alike same xs ys)) 0
+alike test [] ys = 0
+alike test (x ∷ xs) [] = 0
+alike test (x ∷ xs) (y ∷ ys) = cond (test x y) (suc (alike test xs ys)) 0
 
 -- how many gates of the row both lists have as the row has them, from the front
 abbrev pub agreed : Coding → List ℕ → List ℕ → List ℤ → ℕ

@@ -1,4 +1,4 @@
-// Rows that somebody decoded, checked against a file's own (document 02, #112). Both lists are read alone, in one pass with the
+// Rows that somebody decoded, checked against a file's own (document 02, #112). Both lists are only read, in one pass with the
 // moment's codes that ends at the first difference; no row is made, and nothing is divided.
 ghost use mathlib.Core.Path.{_≡_};
 ghost use mathlib.Core.Bool.{cond, _&&_};
@@ -74,6 +74,7 @@ fn shows(c: Coding, code: u16, kind: u8, h: i32) -> bool
 
 // ---- a row
 
+// The lesser of the two.
 fn least(a: usize, b: usize) -> usize
     ensures { λ r. ⌜ r ≡ min a b ⌝ }
 {

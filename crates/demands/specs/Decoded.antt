@@ -1,5 +1,5 @@
 -- Rows that somebody decoded (document 02, #112): two lists, kinds and hundredths, against the row of a radial and type. 30 and 31 are
--- in `One`, what growth keeps in `Three`. Both lists are lent to be read alone.
+-- in `One`, what growth keeps in `Three`. Both lists are lent only to be read.
 use Prim.Native.Nat.{ℕ}
 use mathlib.Core.List.{List, [], _∷_, map}
 use mathlib.Core.Path.{_≡_}

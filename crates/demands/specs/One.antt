@@ -114,7 +114,7 @@ pub record WriterRefuses (b : Block) (w : Walk) (room : List ℕ) : Type 0 where
       → (m : Walk) → saysOf b room w ≡ step.Took m → fitsOf b w ≡ true → length room < w .at + lengthOf b → put b w room .answer ≡ Refused 33 (w .at)
 
 -- after a refusal the writer's state and room, the buffers of a row, the tally record and the room of an index or of a
--- record are what they were; a decoded row is lent to be read alone
+-- record are what they were; a decoded row is lent only to be read
 pub record Unchanged : Type 0 where
   pub put : (b : Block) (w : Walk) (room : List ℕ) (n p : ℕ) → put b w room .answer ≡ Refused n p → (put b w room .walk ≡ w) × (put b w room .room ≡ room)
   pub put-on : (b : Block) (w : Walk) (room : List ℕ) (n p : ℕ) → putOn b w room .answer ≡ Refused n p

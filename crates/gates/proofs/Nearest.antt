@@ -1,6 +1,6 @@
 -- The hundredths are rounded right: to nearest, halves away from zero. Assumes nothing.
 use mathlib.Core.Path.{_≡_, refl, sym, ap, _∙_}
-use Prim.Native.Nat.{ℕ, zero, suc, _+_, _*_, _/_, _%_, _≤_, _<_}
+use Prim.Native.Nat.{ℕ, zero, suc, _+_, _*_, _%_, _≤_, _<_}
 use native.Mathlib.Nat.{mod-add-div', mod-lt, suc-mul, div-eq-of-lt-le}
 use native.Mathlib.Numerals.{add-one}
 use native.Mathlib.Omega.{arith}

@@ -1,18 +1,15 @@
 -- The loop's invariant: the gates before i agree. Assumes nothing.
-use mathlib.Core.Bool.{true, false, false≢true, _&&_}
-use mathlib.Core.Path.{_≡_, sym, ap, ap₂, _∙_}
+use mathlib.Core.Bool.{_&&_}
+use mathlib.Core.Path.{_≡_, sym, ap₂, _∙_}
 use Prim.Native.Nat.{ℕ, _-_, _≤_, _<_}
 use native.Mathlib.Omega.{arith}
 use borrow.Author.Count.{below-none, below-more}
 use borrow.Author.Needs.{needs, sfits-of}
 use borrow.Author.Tests.{not-true, not-false}
 use lib.Dec.{eqb}
-use lib.IntN.{ℤ, pos}
-use lib.ListN.{length, getD}
-use mir.Syntax.{w32}
-use mir.Val.{toZ, ofZ, SFits}
+use lib.IntN.{ℤ}
+use lib.ListN.{getD}
 use mir.Facts.{toZ-ofZ}
-use Rattle.le.proofs.Tests.{both}
 use Rattle.gates.specs.Codes.{codesOf}
 use Rattle.gates.specs.Gates.{kindOf}
 use Rattle.gates.specs.Rows.{shownOf}

@@ -1,8 +1,5 @@
-use mathlib.Core.Path.{_≡_, _∙_, ap}
 use native.Mathlib.Omega.{arith}
-use lib.IntN.{ℤ}
-use mir.Syntax.{w32, w64}
-use mir.Val.{toZ, ofZ}
+use mir.Syntax.{w64}
 use mir.Facts.{toZ-ofZ, toZ-pos}
 use Rattle.decoded.proofs.Signs.{wide, raised}
 use Rattle.decoded.proofs.raised.Statement.{statement}
