@@ -123,7 +123,7 @@ module _ (c : Coding) (code r : ℕ) (h : ℤ) (f : SFits w32 h) (e : pos r ≡ 
 
 -- ---- the offset itself, which stands for any gate that is no value
 
-pub at-offset : (c : Coding) → hundredthsOf c (c .offset) ≡ pos 0
+at-offset : (c : Coding) → hundredthsOf c (c .offset) ≡ pos 0
 at-offset c =
     let o = c .offset in
     let z : o - o ≡ 0 = omega arith in

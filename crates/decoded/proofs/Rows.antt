@@ -102,7 +102,7 @@ module _ (f : List ℕ) (n t : ℕ) (w : There f n t) where
 
   -- lists that are answered yes are the row's, for any statement on them
   module _ (k : List ℕ) (h : List ℤ) where
-    pub is-own : checkAsked f n t k h ≡ answered same → (k ≡ kinds) × (h ≡ hundredths)
+    is-own : checkAsked f n t k h ≡ answered same → (k ≡ kinds) × (h ≡ hundredths)
     is-own e = ends-own c own k h (same-ends f n t w k h e)
 
     own-is : (k ≡ kinds) × (h ≡ hundredths) → checkAsked f n t k h ≡ answered same
@@ -118,7 +118,7 @@ module _ (f : List ℕ) (n t : ℕ) (k : List ℕ) (h : List ℤ) where
       rw (take-length k, ← l, take-length h) at (filled-same f n t w (length k) k k h h (is-filled f n t w (length k) k k h h (Filled (length k)) refl x))
 
   there : (x : Checked) → checkAsked f n t k h ≡ answered x → There f n t
-  there x e = found f n t k h x e
+  there = found f n t k h
 
   pub exactly : Exactly f n t k h
   exactly =
