@@ -5,6 +5,7 @@ own (document 02, #112).
     python3 tools/checking_expected.py stdin > crates/checking/stdin
     python3 tools/checking_expected.py stdout > crates/checking/stdout
     python3 tools/checking_expected.py names       each row's number and what it is, a line for each of the output
+    python3 tools/checking_expected.py rich.kinds > samples/rich.kinds      and so rich.hundredths and folded.kinds
 
 Standard input is one volume after the other: how many bytes it has, how many rows follow it, its bytes,
 then each row: radial, type, how many kinds, how many hundredths, the kinds, and the hundredths, which
@@ -542,9 +543,20 @@ def checked():
         yield volume, data, cases
 
 
+def signed(numbers):
+    return struct.pack(f'<{len(numbers)}i', *numbers)
+
+
 def row_bytes(c):
     head = struct.pack('<4I', c.radial, c.type, len(c.kinds), len(c.hundredths))
-    return head + bytes(c.kinds) + struct.pack(f'<{len(c.hundredths)}i', *c.hundredths)
+    return head + bytes(c.kinds) + signed(c.hundredths)
+
+
+def samples():
+    """The lists of a row of `rich`, and its kinds where every special code was taken for no echo."""
+    kinds, hundredths = rows_of(volumes.rich_spec())[ONE_BYTE]
+    return {'rich.kinds': bytes(kinds), 'rich.hundredths': signed(hundredths),
+            'folded.kinds': bytes(k if k > 4 else 0 for k in kinds)}
 
 
 def lines(c):
@@ -571,8 +583,10 @@ def main(args):
             for c in cases:
                 print(f'{next(number)}: {volume}, radial {c.radial}, type {c.type}: {c.name}')
                 print(end='\n' * (len(lines(c)) - 1))   # nothing beside a refusal in words
+    elif len(args) == 1 and args[0] in samples():
+        sys.stdout.buffer.write(samples()[args[0]])
     else:
-        sys.exit('usage: checking_expected.py stdin|stdout|names')
+        sys.exit('usage: checking_expected.py stdin|stdout|names|rich.kinds|rich.hundredths|folded.kinds')
 
 
 if __name__ == '__main__':
