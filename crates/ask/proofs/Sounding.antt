@@ -14,9 +14,9 @@ use mir.Syntax.{w16, w32}
 use Rattle.le.specs.Le.{part, int}
 use Rattle.le.proofs.Laws.{part-take, part-drop}
 use Rattle.le.proofs.Tests.{both}
-use Rattle.rules.specs.Masks.{bit, binLengthOk}
+use Rattle.rules.specs.Masks.{bit, binLengthClauses}
 use Rattle.rules.specs.Ranges.{among, within}
-use Rattle.rules.proofs.Numbers.{by-bits, exactly}
+use Rattle.rules.proofs.Numbers.{by-bits, exactly, bin-by-size}
 use Rattle.rules.specs.declared.check.Check.the-variants.{Fine}
 use Rattle.moment.specs.declared.Moment.{Moment}
 use Rattle.moment.specs.declared.MomentDue.{MomentDue}
@@ -54,7 +54,7 @@ bin-is true x e = inr (eqb-true x 2 e)
 bin-is false x e = inl (eqb-true x 1 e)
 
 header-sound : (b : List ℕ) (p : ℕ) (d : MomentDue) → momentCheck (momentAt b p) d ≡ Fine → p + 32 + momentAt b p .length ≤ length b → Sound b p
-unfolding momentCheck binLengthOk dataAt
+unfolding momentCheck dataAt
 header-sound b p d e r =
     let h = momentAt b p in
     let a = all-hold (momentRules h d) e in
@@ -64,7 +64,7 @@ header-sound b p d e r =
     let oo = o .1 in
     let ls : h .scale < 65536 = omega arith in
     let lo : h .offset < 65536 = omega arith in
-    let bin = bin-is (bit (d .sizes) (h .«data_type»)) (h .«bin_length») (rw (exactly w16 2 (h .«bin_length») (lit< tt), exactly w16 1 (h .«bin_length») (lit< tt)) at (a .1 .1 .1 .0)) in
+    let bin = bin-is (bit (d .sizes) (h .«data_type»)) (h .«bin_length») (rw (exactly w16 2 (h .«bin_length») (lit< tt), exactly w16 1 (h .«bin_length») (lit< tt)) at (sym (bin-by-size (d .sizes) (h .«data_type») (h .«bin_length»)) ∙ a .1 .1 .1 .0)) in
     let bytes : length (dataAt b p) ≡ h .length = simp (length-take, length-drop) (omega arith) in
     record {
       scale = s;

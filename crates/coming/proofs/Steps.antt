@@ -17,9 +17,9 @@ use borrow.Author.Tests.{le-leb, lt-leb, leb-true, eqb-true, eq-eqb, not-true}
 use Rattle.le.specs.Le.{int, short}
 use Rattle.le.proofs.Tests.{both, fails}
 use Rattle.rules.specs.Ranges.{among, within}
-use Rattle.rules.specs.Masks.{bit, withBit, typeOk, binLengthOk}
-use Rattle.rules.specs.Tiling.{tiles, lengthOk}
-use Rattle.rules.proofs.Numbers.{by-bits, in-range, exactly}
+use Rattle.rules.specs.Masks.{bit, withBit, typeOk, typeClauses, binLengthOk, binLengthClauses}
+use Rattle.rules.specs.Tiling.{tiles, lengthOk, lengthClauses}
+use Rattle.rules.proofs.Numbers.{by-bits, in-range, exactly, bin-by-size}
 use Rattle.coming.specs.Moments.{Comes, fills, momentsCan, singles, doubles}
 use Rattle.coming.proofs.Counts.{count, count-find, digit, ones-count}
 use Rattle.coming.proofs.Filling.{fits-of}
@@ -38,29 +38,28 @@ binOf sizes t = cond (bit sizes t) 2 1
 module _ (mask sizes seen t bin todo left n : ℕ)
     (ty : typeOk mask seen t ≡ true) (bl : binLengthOk sizes t bin ≡ true) (ln : lengthOk todo left bin n ≡ true) where
   size-range : (1 ≤ n) × (n ≤ 32768)
-  unfolding lengthOk
+  unfolding lengthClauses
   size-range =
       let a = both (among (pos 1) (pos 32768) (int n) && eqb (n % bin) 0) _ ln in
       let b = both (among (pos 1) (pos 32768) (int n)) _ (a .0) in
       range-of 1 32768 n (sym (by-bits w32 1 32768 n (lit< tt)) ∙ b .0)
 
   tiling : tiles todo left n ≡ true
-  unfolding lengthOk
+  unfolding lengthClauses
   tiling = both (among (pos 1) (pos 32768) (int n) && eqb (n % bin) 0) _ ln .1
 
   multiple : n % bin ≡ 0
-  unfolding lengthOk
+  unfolding lengthClauses
   multiple =
       let a = both (among (pos 1) (pos 32768) (int n) && eqb (n % bin) 0) _ ln in
       eqb-true (n % bin) 0 (both (among (pos 1) (pos 32768) (int n)) _ (a .0) .1)
 
   bin-two : bit sizes t ≡ true → bin ≡ 2
-  unfolding binLengthOk
   bin-two e =
-      eqb-true bin 2 (sym (exactly w16 2 bin (lit< tt)) ∙ sym (ap (λ (b : Bool). cond b (among (pos 2) (pos 2) (short bin)) (among (pos 1) (pos 1) (short bin))) e) ∙ bl)
+      eqb-true bin 2 (sym (exactly w16 2 bin (lit< tt)) ∙ sym (ap (λ (b : Bool). cond b (among (pos 2) (pos 2) (short bin)) (among (pos 1) (pos 1) (short bin))) e) ∙ sym (bin-by-size sizes t bin) ∙ bl)
 
   pub comes : Comes mask sizes seen (record { kind = t; size = n })
-  unfolding typeOk
+  unfolding typeClauses
   comes =
       let a = both (among (pos 1) (pos 64) (int t) && not (bit seen t)) _ ty in
       let b = both (among (pos 1) (pos 64) (int t)) _ (a .0) in
@@ -118,8 +117,7 @@ pub record Taken (mask sizes seen todo left : ℕ) : Type 0 where
   pub still : momentsCan mask sizes (withBit seen kind) todo (left - (32 + size)) ≡ true
 
 bin-ok : (sizes t : ℕ) → binLengthOk sizes t (binOf sizes t) ≡ true
-unfolding binLengthOk
-bin-ok sizes t = go (bit sizes t)
+bin-ok sizes t = bin-by-size sizes t (binOf sizes t) ∙ go (bit sizes t)
   where
     go : (b : Bool) → cond b (among (pos 2) (pos 2) (short (cond b 2 1))) (among (pos 1) (pos 1) (short (cond b 2 1))) ≡ true
     go true = exactly w16 2 2 (lit< tt)
@@ -141,7 +139,7 @@ least-left mask sizes seen todo left e =
     (λ z. let m = f .most in omega arith, let m = f .least in omega arith)
 
 pub step-on : (mask sizes seen todo left : ℕ) → mask < 2 ^ 64 → momentsCan mask sizes seen (suc todo) left ≡ true → Taken mask sizes seen todo left
-unfolding typeOk lengthOk
+unfolding typeClauses lengthClauses
 step-on mask sizes seen todo left small h =
     let o = can-on mask sizes seen small todo left h in
     let p = o .piece in
@@ -199,7 +197,7 @@ some-bit mask sizes p small =
 
 -- the last moment's length leaves nothing
 pub last-length : (left bin n : ℕ) → lengthOk 1 left bin n ≡ true → left - (32 + n) ≡ 0
-unfolding lengthOk
+unfolding lengthClauses
 last-length left bin n e =
     let k = tiles-last left n (both (among (pos 1) (pos 32768) (int n) && eqb (n % bin) 0) _ e .1) in
     omega arith

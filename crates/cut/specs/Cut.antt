@@ -129,21 +129,21 @@ pub record CutFits (r : Cut) : Type 0 where
   pub «clutter_notch_width» : r .«clutter_notch_width» < 256 ^ 2
   pub «clutter_window» : r .«clutter_window» < 256 ^ 2
 
--- its rules in byte order (table 2-5): place, number, whether it holds
+-- its rules in byte order (table 2-5): place, size, number, clauses
 abbrev pub cutRules : Cut → List Rule
 cutRules r =
     -- process mode (table 2-5): 1..2
-    rule 0 9 (among (pos 1) (pos 2) (int (r .«process_mode»)))
+    rule 0 4 9 (among (pos 1) (pos 2) (int (r .«process_mode»)) ∷ [])
     -- wave form (table 2-5): 0..6
-    ∷ rule 4 9 (among (pos 0) (pos 6) (int (r .«wave_form»)))
+    ∷ rule 4 4 9 (among (pos 0) (pos 6) (int (r .«wave_form»)) ∷ [])
     -- unfold mode (table 2-5): 1..4
-    ∷ rule 16 9 (among (pos 1) (pos 4) (int (r .«unfold_mode»)))
+    ∷ rule 16 4 9 (among (pos 1) (pos 4) (int (r .«unfold_mode»)) ∷ [])
     -- log resolution (table 2-5): 1..5000
-    ∷ rule 44 9 (among (pos 1) (pos 5000) (int (r .«log_resolution»)))
+    ∷ rule 44 4 9 (among (pos 1) (pos 5000) (int (r .«log_resolution»)) ∷ [])
     -- doppler resolution (table 2-5): 1..5000
-    ∷ rule 48 9 (among (pos 1) (pos 5000) (int (r .«doppler_resolution»)))
+    ∷ rule 48 4 9 (among (pos 1) (pos 5000) (int (r .«doppler_resolution»)) ∷ [])
     -- phase mode (table 2-5): 1..3
-    ∷ rule 72 9 (among (pos 1) (pos 3) (int (r .«phase_mode»)))
+    ∷ rule 72 4 9 (among (pos 1) (pos 3) (int (r .«phase_mode»)) ∷ [])
     ∷ []
 
 unfoldable pub cutCheck : Cut → Check

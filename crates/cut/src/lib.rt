@@ -287,7 +287,7 @@ impl Cut {
         put_reserved(room, at + Self::RESERVED, &reserved);
     }
 
-    // The first broken rule of the block, by its number and place.
+    // The first broken clause of the first broken rule of the block.
     pub fn check(self) -> Check
         ensures { λ r. ⌜ r ≡ cutCheck self ⌝ }
     {
@@ -296,27 +296,37 @@ impl Cut {
             process_mode_ok(self.process_mode),
             9,
             Self::PROCESS_MODE as u8,
+            4,
         );
-        let v = also(v, wave_form_ok(self.wave_form), 9, Self::WAVE_FORM as u8);
+        let v = also(v, wave_form_ok(self.wave_form), 9, Self::WAVE_FORM as u8, 4);
         let v = also(
             v,
             unfold_mode_ok(self.unfold_mode),
             9,
             Self::UNFOLD_MODE as u8,
+            4,
         );
         let v = also(
             v,
             resolution_ok(self.log_resolution),
             9,
             Self::LOG_RESOLUTION as u8,
+            4,
         );
         let v = also(
             v,
             resolution_ok(self.doppler_resolution),
             9,
             Self::DOPPLER_RESOLUTION as u8,
+            4,
         );
-        let v = also(v, phase_mode_ok(self.phase_mode), 9, Self::PHASE_MODE as u8);
+        let v = also(
+            v,
+            phase_mode_ok(self.phase_mode),
+            9,
+            Self::PHASE_MODE as u8,
+            4,
+        );
         v
     }
 }

@@ -39,7 +39,7 @@ use Rattle.demands.proofs.Wedges.{wedges-hold}
 use Rattle.demands.specs.Two.{RefusedExactly, WholeRadials, Codes, Trips, Writing, IndexRight, DemandTwo}
 
 refused-exactly : RefusedExactly
-refused-exactly = record { fine = all-hold; holds = fine-if; refused = decided-first; first = λ rules n p f. first-decides f; files = told-exactly }
+refused-exactly = record { fine = all-hold; holds = fine-if; refused = decided-first; first = λ rules c f. first-decides f; files = told-exactly }
 
 whole-radials : WholeRadials
 whole-radials = record { radials = in-place; moments = sound }

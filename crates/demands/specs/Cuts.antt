@@ -9,7 +9,7 @@ use lib.Dec.{ltb}
 use lib.ListN.{length}
 use Rattle.le.specs.Le.{Bytes, int}
 use Rattle.rules.specs.Check.{rule}
-use Rattle.rules.specs.Ranges.{is, counts, mostSequence}
+use Rattle.rules.specs.Ranges.{is, counts, mostSequence, countClauses}
 use Rattle.radial.specs.declared.Radial.{Radial}
 use Rattle.radial.specs.declared.RadialDue.{RadialDue}
 use Rattle.radial.specs.Radial.{radialRules}
@@ -60,7 +60,7 @@ contentsOfVolume v =
 pub record Cuts : Type 0 where
   -- a sequence is one more than the radials before it, and 65,536 at the most; number 12 asks for that and for nothing else
   pub sequence : (before n : ℕ) → (counts mostSequence before n ≡ true) ↔ ((n ≡ before + 1) × (n ≤ 65536))
-  pub twelve : (r : Radial) (d : RadialDue) → numbered 12 (radialRules r d) ≡ rule 8 12 (counts mostSequence (d .before) (r .sequence)) ∷ []
+  pub twelve : (r : Radial) (d : RadialDue) → numbered 12 (radialRules r d) ≡ rule 8 4 12 (countClauses mostSequence (d .before) (r .sequence)) ∷ []
   -- of a task of 65 cuts or fewer no radial is refused for that limit: wherever one is due, number 12 asks what document 01 asked
   pub as-before : (b : Begun) → BegunOk b → b .task .«cut_number» ≤ 65 → (n : ℕ)
       → counts mostSequence (dueRadial b .before) n ≡ is (dueRadial b .before + 1) (int n)

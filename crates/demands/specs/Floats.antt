@@ -125,10 +125,10 @@ numbered n (r ∷ rs) = cond (eqb (r .number) n) (r ∷ numbered n rs) (numbered
 
 -- the rules by these numbers are these tests and no other, each at its field's place
 pub record Ruled : Type 0 where
-  pub number-3 : (r : Site) → r .latitude < 2 ^ 32 → numbered 3 (siteRules r) ≡ rule 40 3 (latitude .test (r .latitude)) ∷ []
-  pub number-4 : (r : Site) → r .longitude < 2 ^ 32 → numbered 4 (siteRules r) ≡ rule 44 4 (longitude .test (r .longitude)) ∷ []
-  pub number-15 : (r : Radial) (d : RadialDue) → r .azimuth < 2 ^ 32 → numbered 15 (radialRules r d) ≡ rule 20 15 (azimuth .test (r .azimuth)) ∷ []
-  pub number-16 : (r : Radial) (d : RadialDue) → r .elevation < 2 ^ 32 → numbered 16 (radialRules r d) ≡ rule 24 16 (elevation .test (r .elevation)) ∷ []
+  pub number-3 : (r : Site) → r .latitude < 2 ^ 32 → numbered 3 (siteRules r) ≡ rule 40 4 3 (latitude .test (r .latitude) ∷ []) ∷ []
+  pub number-4 : (r : Site) → r .longitude < 2 ^ 32 → numbered 4 (siteRules r) ≡ rule 44 4 4 (longitude .test (r .longitude) ∷ []) ∷ []
+  pub number-15 : (r : Radial) (d : RadialDue) → r .azimuth < 2 ^ 32 → numbered 15 (radialRules r d) ≡ rule 20 4 15 (azimuth .test (r .azimuth) ∷ []) ∷ []
+  pub number-16 : (r : Radial) (d : RadialDue) → r .elevation < 2 ^ 32 → numbered 16 (radialRules r d) ≡ rule 24 4 16 (elevation .test (r .elevation) ∷ []) ∷ []
 
 pub record Floats : Type 0 where
   pub latitude : OnBits latitude

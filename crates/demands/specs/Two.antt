@@ -6,6 +6,7 @@ use mathlib.Core.Path.{_≡_}
 use Prim.Native.Nat.{ℕ, _<_, _≤_}
 use lib.IntN.{ℤ, pos}
 use lib.ListN.{length}
+use Rattle.rules.specs.declared.check.Clause.{Clause}
 use Rattle.le.specs.Le.{Bytes}
 use Rattle.rules.specs.declared.check.Check.the-variants.{Fine, Broken}
 use Rattle.rules.specs.Check.{Rule, verdict, Hold, First}
@@ -68,15 +69,15 @@ pub record Volumes : Type 0 where
   pub plain : PlainMeans
   pub sense : Sense
 
--- a block is refused exactly when one of its rules does not hold, with the number and place of the first such rule; it is
+-- a block is refused exactly when one of its rules does not hold, by the first broken clause of the first such rule; it is
 -- fine exactly when each of them holds. A file is refused exactly when that is so of the block that is due, or bytes follow
 -- a complete volume, or that block keeps its rules and no hope is left behind it (`Hopes`); open exactly when that block is not all
 -- there, by what is missing of it
 pub record RefusedExactly : Type 0 where
   pub fine : (rules : List Rule) → verdict rules ≡ Fine → Hold rules
   pub holds : (rules : List Rule) → Hold rules → verdict rules ≡ Fine
-  pub refused : (rules : List Rule) (n p : ℕ) → verdict rules ≡ Broken n p → First rules n p
-  pub first : (rules : List Rule) (n p : ℕ) → First rules n p → verdict rules ≡ Broken n p
+  pub refused : (rules : List Rule) (c : Clause) → verdict rules ≡ Broken c → First rules c
+  pub first : (rules : List Rule) (c : Clause) → First rules c → verdict rules ≡ Broken c
   pub files : (f : List ℕ) → ToldExactly f
 
 -- what reading accepts as a whole radial is a header that keeps its rules and moments that tile it, each keeping its own: against

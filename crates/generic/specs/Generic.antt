@@ -46,13 +46,13 @@ pub record GenericFits (r : Generic) : Type 0 where
   pub «generic_type» : r .«generic_type» < 256 ^ 4
   pub «product_type» : r .«product_type» < 256 ^ 4
 
--- its rules in byte order (table 2-2): place, number, whether it holds
+-- its rules in byte order (table 2-2): place, size, number, clauses
 abbrev pub genericRules : Generic → List Rule
 genericRules r =
     -- magic (table 2-2): the magic
-    rule 0 1 (is 0x4D545352 (int (r .magic)))
+    rule 0 4 1 (is 0x4D545352 (int (r .magic)) ∷ [])
     -- generic type (table 2-2): 1
-    ∷ rule 8 2 (is 1 (int (r .«generic_type»)))
+    ∷ rule 8 4 2 (is 1 (int (r .«generic_type»)) ∷ [])
     ∷ []
 
 unfoldable pub genericCheck : Generic → Check

@@ -81,16 +81,17 @@ impl Generic {
         le::put(room, at + Self::RESERVED, &reserved);
     }
 
-    // The first broken rule of the block, by its number and place.
+    // The first broken clause of the first broken rule of the block.
     pub fn check(self) -> Check
         ensures { λ r. ⌜ r ≡ genericCheck self ⌝ }
     {
-        let v = also(Check::Fine, magic_ok(self.magic), 1, Self::MAGIC as u8);
+        let v = also(Check::Fine, magic_ok(self.magic), 1, Self::MAGIC as u8, 4);
         let v = also(
             v,
             generic_type_ok(self.generic_type),
             2,
             Self::GENERIC_TYPE as u8,
+            4,
         );
         v
     }

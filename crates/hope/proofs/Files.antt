@@ -9,6 +9,7 @@ use lib.Dec.{lit<}
 use lib.ListN.{length, take}
 use lib.Seq.{take-all, take-take, length-take-le}
 use borrow.Author.Tests.{le-ltb}
+use Rattle.rules.specs.declared.check.Clause.{Clause}
 use Rattle.le.specs.Le.{Bytes}
 use Rattle.le.proofs.Tests.{fails}
 use Rattle.rules.specs.Check.{Rule, verdict, First, here, behind}
@@ -42,8 +43,8 @@ abbrev Below : List Rule → Type 0
 Below [] = Unit {0}
 Below (r ∷ rs) = (r .number < 40) × Below rs
 
-first-below : {rs : List Rule} {n q : ℕ} → First rs n q → Below rs → n < 40
-first-below (here r rs e) h = h .0
+first-below : {rs : List Rule} {c : Clause} → First rs c → Below rs → c .number < 40
+first-below (here r rs k e) h = h .0
 first-below (behind r rs e f) h = first-below f (h .1)
 
 rules-below : (d : Due) (f : List ℕ) (w : Walk) → Below (rulesOf d f w)
@@ -65,7 +66,7 @@ plain-below f w n p e = go (view f w)
         let s = settled (w .due) f w i in
         let rules = rulesOf (w .due) f w in
         let x = settle-refused (verdict rules) (w .at) (s .next) n p (sym (s .is) ∙ sym (plain-here f w i h) ∙ e) in
-        first-below (decided-first rules n (x .0) (x .1)) (rules-below (w .due) f w)
+        subst (λ (m : ℕ). m < 40) (x .2) (first-below (decided-first rules (x .0) (x .1)) (rules-below (w .due) f w))
     go (run.short i h) = absurd (let q = is-short false f w i h in let z : _≡_ {A = ℕ} 0 1 = cc in omega arith)
     go (run.over i h) = let q = is-over false f w i h in let a : 25 ≡ n = cc in omega arith
     go (run.done i h) = absurd (let q = is-done false f w i h in let z : _≡_ {A = ℕ} 0 1 = cc in omega arith)

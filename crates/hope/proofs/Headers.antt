@@ -10,7 +10,7 @@ use Rattle.rules.specs.declared.check.Check.{Check}
 use Rattle.rules.specs.Ranges.{among, is, mostRadials, mostSequence, notBelowZero, onBits}
 use Rattle.rules.specs.Masks.{bit}
 use Rattle.rules.specs.States.{opening, closing, stateOk}
-use Rattle.rules.specs.Tiling.{lengthOk, momentNumberOk}
+use Rattle.rules.specs.Tiling.{lengthOk, momentNumberClauses}
 use Rattle.rules.proofs.Allowed.{count-allowed}
 use Rattle.rules.proofs.Four.{azimuth, elevation}
 use Rattle.rules.proofs.Judged.{fine-if}
@@ -140,7 +140,7 @@ module _ (scan cuts cut : ℕ) where
   fewer (suc n) = rw (ne-eqb (suc n) 0 (λ e. omega arith), closes)
 
 pub radial-on : (c : Cut) (w : Walk) → 0 < c .«moments_mask» → c .«moments_mask» < 2 ^ 64 → w .count .cut ≤ 256 → dueHope w ≡ true → RadialOn c w
-unfolding takeRadial radialCheck hopeAfterRadial radialHope momentsHope radialsHope hoping dueHope closesCut settle among notBelowZero momentNumberOk onBits radialBytes
+unfolding takeRadial radialCheck hopeAfterRadial radialHope momentsHope radialsHope hoping dueHope closesCut settle among notBelowZero momentNumberClauses onBits radialBytes
 radial-on c w some small few h =
     let scan = w .plan .«scan_type» in
     let cuts = w .plan .cuts in

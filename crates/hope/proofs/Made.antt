@@ -8,7 +8,7 @@ use lib.ListN.{length, getD}
 use Rattle.le.specs.Le.{bytes, run, Bytes}
 use Rattle.rules.specs.declared.check.Check.the-variants.{Fine}
 use Rattle.rules.specs.Ranges.{among, notBelowZero, onBits}
-use Rattle.rules.specs.States.{rhi, mostCuts, cutNumberOk}
+use Rattle.rules.specs.States.{rhi, mostCuts, cutNumberClauses}
 use Rattle.rules.proofs.Judged.{fine-if}
 use Rattle.rules.proofs.Four.{latitude, longitude}
 use Rattle.generic.specs.declared.Generic.{Generic}
@@ -95,7 +95,7 @@ unfolding siteCheck onBits
 site-fine = fine-if (siteRules theSite) (latitude 0 (lit< tt), (longitude 0 (lit< tt), tt))
 
 pub task-fine : taskCheck theTask ≡ Fine
-unfolding taskCheck among notBelowZero cutNumberOk mostCuts rhi
+unfolding taskCheck among notBelowZero cutNumberClauses mostCuts rhi
 task-fine = fine-if (taskRules theTask) (refl, (refl, (refl, (refl, tt))))
 
 pub cut-fine : cutCheck theCut ≡ Fine

@@ -11,12 +11,13 @@ use lib.IntN.{pos}
 use lib.ListN.{length, take, drop, length-append, take-append-drop}
 use lib.Seq.{take-at, take-all, take-append-le, take-add, drop-at, length-take-le}
 use mir.Syntax.{w32}
+use Rattle.rules.proofs.Judged.{held-first}
 use Rattle.le.specs.Le.{Bytes, int}
 use Rattle.le.proofs.Here.{split, drop-bytes}
 use Rattle.le.proofs.Tests.{both}
 use Rattle.rules.specs.Check.{Rule, Hold, First, here, behind}
 use Rattle.rules.specs.Ranges.{among}
-use Rattle.rules.specs.Tiling.{lengthOk}
+use Rattle.rules.specs.Tiling.{lengthClauses}
 use Rattle.rules.proofs.Numbers.{least}
 use Rattle.cut.specs.declared.Cut.{Cut}
 use Rattle.task.specs.declared.Task.{Task}
@@ -73,14 +74,9 @@ reads-volume v is =
 
 -- ---- what says nothing of hope
 
--- rules that hold have no first broken one
-held-first : {rs : List Rule} {n p : ℕ} → First rs n p → Hold rs → ⊥
-held-first (here r rs e) h = let z = h .0 in let o : _≡_ {A = ℕ} 0 1 = cc in omega arith
-held-first (behind r rs e f) h = held-first f (h .1)
-
 -- a block is due, with a byte at least, but behind a volume
 some-due : (a : Accepted) → AcceptedOk a → (0 < dueSize a) ⊎ ((v : Volume) × (a ≡ volume v))
-unfolding lengthOk
+unfolding lengthClauses
 some-due nothing ok = inl (lit< tt)
 some-due (generic g) ok = inl (lit< tt)
 some-due (site g s) ok = inl (lit< tt)
@@ -189,7 +185,7 @@ module _ (a : Accepted) (rest : List ℕ) (bs : Bytes (bytesOfAccepted a ++ rest
         said (complete v) l k z = omega arith
         said (follow v x xs) l k z = omega arith
         said (missing b q m) l k z = omega arith
-        said (broken b q n p m f) l k z = held-first f k
+        said (broken b q c m f) l k z = held-first f k
 
         go : Tried a rest → plainStop (bytesOfAccepted a ++ take (dueSize a) rest) .at ≡ length (bytesOfAccepted a ++ take (dueSize a) rest)
         go (volumes.stops y s) = absurd (said s there rules due)

@@ -6,8 +6,8 @@ use lib.ListN.{length}
 use lib.IntN.{pos}
 use Rattle.le.specs.Le.{le, bytes, part, run, int}
 use Rattle.rules.specs.Ranges.{among}
-use Rattle.rules.specs.Masks.{binLengthOk, typeOk}
-use Rattle.rules.specs.Tiling.{lengthOk, momentHeader}
+use Rattle.rules.specs.Masks.{binLengthClauses, typeClauses}
+use Rattle.rules.specs.Tiling.{lengthClauses, momentHeader}
 use Rattle.moment.specs.declared.Moment.{Moment}
 use Rattle.moment.specs.declared.MomentDue.{MomentDue}
 use Rattle.rules.specs.declared.check.Check.{Check}
@@ -52,19 +52,19 @@ pub record MomentFits (r : Moment) : Type 0 where
   pub flags : r .flags < 256 ^ 2
   pub length : r .length < 256 ^ 4
 
--- its rules in byte order (table 3-2): place, number, whether it holds
+-- its rules in byte order (table 3-2): place, size, number, clauses
 abbrev pub momentRules : Moment → MomentDue → List Rule
 momentRules r d =
     -- data type (table 3-2): 1..64, not seen before, in the cut's moments mask
-    rule 0 20 (typeOk (d .mask) (d .seen) (r .«data_type»))
+    rule 0 4 20 (typeClauses (d .mask) (d .seen) (r .«data_type»))
     -- scale (table 3-2): 1..32,768
-    ∷ rule 4 21 (among (pos 1) (pos 32768) (int (r .scale)))
+    ∷ rule 4 4 21 (among (pos 1) (pos 32768) (int (r .scale)) ∷ [])
     -- offset (table 3-2): 0..32,768
-    ∷ rule 8 22 (among (pos 0) (pos 32768) (int (r .offset)))
+    ∷ rule 8 4 22 (among (pos 0) (pos 32768) (int (r .offset)) ∷ [])
     -- bin length (table 3-2): 1 or 2, by the cut's size mask
-    ∷ rule 12 23 (binLengthOk (d .sizes) (r .«data_type») (r .«bin_length»))
+    ∷ rule 12 2 23 (binLengthClauses (d .sizes) (r .«data_type») (r .«bin_length»))
     -- length (table 3-2): 1..32,768, a multiple of bin length, right for the tiling
-    ∷ rule 16 24 (lengthOk (d .todo) (d .left) (r .«bin_length») (r .length))
+    ∷ rule 16 4 24 (lengthClauses (d .todo) (d .left) (r .«bin_length») (r .length))
     ∷ []
 
 unfoldable pub momentCheck : Moment → MomentDue → Check

@@ -8,6 +8,7 @@ ghost use lib.IntN.{pos};
 ghost use Rattle.moment.specs.Moment.{momentOf, momentAt, momentBytes, momentSize, momentCheck};
 use rules::check::Check;
 use rules::check::also;
+use rules::check::also_clauses;
 use rules::masks;
 use rules::tiling;
 
@@ -96,29 +97,32 @@ impl Moment {
         le::put(room, at + Self::RESERVED, &reserved);
     }
 
-    // The first broken rule of the block, by its number and place.
+    // The first broken clause of the first broken rule of the block.
     pub fn check(self, due: MomentDue) -> Check
         ensures { λ r. ⌜ r ≡ momentCheck self due ⌝ }
     {
-        let v = also(
+        let v = also_clauses(
             Check::Fine,
-            masks::type_ok(due.mask, due.seen, self.data_type),
+            masks::type_breaks(due.mask, due.seen, self.data_type),
             20,
             Self::DATA_TYPE as u8,
+            4,
         );
-        let v = also(v, scale_ok(self.scale), 21, Self::SCALE as u8);
-        let v = also(v, offset_ok(self.offset), 22, Self::OFFSET as u8);
-        let v = also(
+        let v = also(v, scale_ok(self.scale), 21, Self::SCALE as u8, 4);
+        let v = also(v, offset_ok(self.offset), 22, Self::OFFSET as u8, 4);
+        let v = also_clauses(
             v,
-            masks::bin_length_ok(due.sizes, self.data_type, self.bin_length),
+            masks::bin_length_breaks(due.sizes, self.data_type, self.bin_length),
             23,
             Self::BIN_LENGTH as u8,
+            2,
         );
-        let v = also(
+        let v = also_clauses(
             v,
-            tiling::length_ok(due.todo, due.left, self.bin_length, self.length),
+            tiling::length_breaks(due.todo, due.left, self.bin_length, self.length),
             24,
             Self::LENGTH as u8,
+            4,
         );
         v
     }

@@ -5,9 +5,9 @@ use mathlib.Core.List.{List, [], _∷_, _++_}
 use lib.ListN.{length}
 use lib.IntN.{pos, negsuc}
 use Rattle.le.specs.Le.{le, bytes, part, run, int}
-use Rattle.rules.specs.Ranges.{among, angle, counts, is, isAzimuth, mostRadials, mostSequence, notBelowZero}
+use Rattle.rules.specs.Ranges.{among, angle, countClauses, is, isAzimuth, mostRadials, mostSequence, notBelowZero}
 use Rattle.rules.specs.States.{stateOk}
-use Rattle.rules.specs.Tiling.{momentNumberOk}
+use Rattle.rules.specs.Tiling.{momentNumberClauses}
 use Rattle.radial.specs.declared.Radial.{Radial}
 use Rattle.radial.specs.declared.RadialDue.{RadialDue}
 use Rattle.rules.specs.declared.check.Check.{Check}
@@ -60,31 +60,31 @@ pub record RadialFits (r : Radial) : Type 0 where
   pub «length_of_data» : r .«length_of_data» < 256 ^ 4
   pub «moment_number» : r .«moment_number» < 256 ^ 4
 
--- its rules in byte order (table 3-1): place, number, whether it holds
+-- its rules in byte order (table 3-1): place, size, number, clauses
 abbrev pub radialRules : Radial → RadialDue → List Rule
 radialRules r d =
     -- state (table 3-1): allowed here, by "States"
-    rule 0 10 (stateOk (d .«scan_type») (d .cuts) (d .cut) (d .«in_cut») (r .state))
+    rule 0 4 10 (stateOk (d .«scan_type») (d .cuts) (d .cut) (d .«in_cut») (r .state) ∷ [])
     -- spot blank (table 3-1): 0..1
-    ∷ rule 4 11 (among (pos 0) (pos 1) (int (r .«spot_blank»)))
+    ∷ rule 4 4 11 (among (pos 0) (pos 1) (int (r .«spot_blank»)) ∷ [])
     -- sequence (table 3-1): 1 more than the radials before it, at most 65,536
-    ∷ rule 8 12 (counts mostSequence (d .before) (r .sequence))
+    ∷ rule 8 4 12 (countClauses mostSequence (d .before) (r .sequence))
     -- radial number (table 3-1): its count in the cut, at most 1000
-    ∷ rule 12 13 (counts mostRadials (d .«in_cut») (r .«radial_number»))
+    ∷ rule 12 4 13 (countClauses mostRadials (d .«in_cut») (r .«radial_number»))
     -- elevation number (table 3-1): the cut's number
-    ∷ rule 16 14 (is (d .cut) (int (r .«elevation_number»)))
+    ∷ rule 16 4 14 (is (d .cut) (int (r .«elevation_number»)) ∷ [])
     -- azimuth (table 3-1): 0..360
-    ∷ rule 20 15 (isAzimuth (r .azimuth))
+    ∷ rule 20 4 15 (isAzimuth (r .azimuth) ∷ [])
     -- elevation (table 3-1): -2..90
-    ∷ rule 24 16 (angle (negsuc 1) (pos 90) (r .elevation))
+    ∷ rule 24 4 16 (angle (negsuc 1) (pos 90) (r .elevation) ∷ [])
     -- seconds (table 3-1): not below 0
-    ∷ rule 28 17 (notBelowZero (int (r .seconds)))
+    ∷ rule 28 4 17 (notBelowZero (int (r .seconds)) ∷ [])
     -- microseconds (table 3-1): 0..999,999
-    ∷ rule 32 17 (among (pos 0) (pos 999999) (int (r .microseconds)))
+    ∷ rule 32 4 17 (among (pos 0) (pos 999999) (int (r .microseconds)) ∷ [])
     -- length of data (table 3-1): 1..100,000
-    ∷ rule 36 18 (among (pos 1) (pos 100000) (int (r .«length_of_data»)))
+    ∷ rule 36 4 18 (among (pos 1) (pos 100000) (int (r .«length_of_data»)) ∷ [])
     -- moment number (table 3-1): 1..64, and 33 times it is not over the length of data
-    ∷ rule 40 19 (momentNumberOk (r .«length_of_data») (r .«moment_number»))
+    ∷ rule 40 4 19 (momentNumberClauses (r .«length_of_data») (r .«moment_number»))
     ∷ []
 
 unfoldable pub radialCheck : Radial → RadialDue → Check

@@ -3,12 +3,14 @@ ghost use mathlib.Core.Path.{_≡_};
 ghost use Prim.Native.Nat.{_+_, _≤_};
 ghost use lib.ListN.{length};
 ghost use Rattle.le.specs.Le.{stored, patch, int};
-ghost use Rattle.rules.specs.Ranges.{among, is, counts, mostRadials, mostSequence};
+ghost use Rattle.rules.specs.Check.{breaks};
+ghost use Rattle.rules.specs.Ranges.{among, is, countClauses, mostRadials, mostSequence};
 ghost use lib.IntN.{pos};
 ghost use Rattle.radial.specs.Radial.{radialOf, radialAt, radialBytes, radialSize, radialCheck};
 use rules::angles;
 use rules::check::Check;
 use rules::check::also;
+use rules::check::also_clauses;
 use rules::ranges;
 use rules::states;
 use rules::tiling;
@@ -126,7 +128,7 @@ impl Radial {
         le::put(room, at + Self::RESERVED, &reserved);
     }
 
-    // The first broken rule of the block, by its number and place.
+    // The first broken clause of the first broken rule of the block.
     pub fn check(self, due: RadialDue) -> Check
         ensures { λ r. ⌜ r ≡ radialCheck self due ⌝ }
     {
@@ -135,61 +137,77 @@ impl Radial {
             states::state_ok(due.scan_type, due.cuts, due.cut, due.in_cut, self.state),
             10,
             Self::STATE as u8,
+            4,
         );
         let v = also(
             v,
             spot_blank_ok(self.spot_blank),
             11,
             Self::SPOT_BLANK as u8,
+            4,
         );
-        let v = also(
+        let v = also_clauses(
             v,
-            sequence_ok(due.before, self.sequence),
+            sequence_breaks(due.before, self.sequence),
             12,
             Self::SEQUENCE as u8,
+            4,
         );
-        let v = also(
+        let v = also_clauses(
             v,
-            radial_number_ok(due.in_cut, self.radial_number),
+            radial_number_breaks(due.in_cut, self.radial_number),
             13,
             Self::RADIAL_NUMBER as u8,
+            4,
         );
         let v = also(
             v,
             elevation_number_ok(due.cut, self.elevation_number),
             14,
             Self::ELEVATION_NUMBER as u8,
+            4,
         );
-        let v = also(v, angles::azimuth_ok(self.azimuth), 15, Self::AZIMUTH as u8);
+        let v = also(
+            v,
+            angles::azimuth_ok(self.azimuth),
+            15,
+            Self::AZIMUTH as u8,
+            4,
+        );
         let v = also(
             v,
             angles::elevation_ok(self.elevation),
             16,
             Self::ELEVATION as u8,
+            4,
         );
         let v = also(
             v,
             ranges::not_below_zero(self.seconds),
             17,
             Self::SECONDS as u8,
+            4,
         );
         let v = also(
             v,
             microseconds_ok(self.microseconds),
             17,
             Self::MICROSECONDS as u8,
+            4,
         );
         let v = also(
             v,
             length_of_data_ok(self.length_of_data),
             18,
             Self::LENGTH_OF_DATA as u8,
+            4,
         );
-        let v = also(
+        let v = also_clauses(
             v,
-            tiling::moment_number_ok(self.length_of_data, self.moment_number),
+            tiling::moment_number_breaks(self.length_of_data, self.moment_number),
             19,
             Self::MOMENT_NUMBER as u8,
+            4,
         );
         v
     }
@@ -205,23 +223,26 @@ fn spot_blank_ok(x: u32) -> bool
     }
 }
 
-// Number 12 (table 3-1): one more than the radials before it, 65,536 at the most (document 02, #106).
-fn sequence_ok(before: usize, x: u32) -> bool
-    ensures { λ r. ⌜ r ≡ counts mostSequence before x ⌝ }
+// Which clause of number 12 (table 3-1) a sequence breaks first: one more than the radials before it, 65,536 at the most (document 02,
+// #106).
+fn sequence_breaks(before: usize, x: u32) -> u8
+    ensures { λ r. ⌜ r ≡ breaks (countClauses mostSequence before x) ⌝ }
 {
     match x {
-        1..=65536 => (x - 1) as usize == before,
-        _ => false,
+        1..=65536 => if (x - 1) as usize == before { 0 } else { 1 },
+        65537..=0x7fff_ffff => if (x - 1) as usize == before { 2 } else { 1 },
+        _ => 1,
     }
 }
 
-// Number 13 (table 3-1): its count in the cut, 1000 at the most.
-fn radial_number_ok(before: usize, x: u32) -> bool
-    ensures { λ r. ⌜ r ≡ counts mostRadials before x ⌝ }
+// Which clause of number 13 (table 3-1) a radial number breaks first: its count in the cut, 1000 at the most.
+fn radial_number_breaks(before: usize, x: u32) -> u8
+    ensures { λ r. ⌜ r ≡ breaks (countClauses mostRadials before x) ⌝ }
 {
     match x {
-        1..=1000 => (x - 1) as usize == before,
-        _ => false,
+        1..=1000 => if (x - 1) as usize == before { 0 } else { 1 },
+        1001..=0x7fff_ffff => if (x - 1) as usize == before { 2 } else { 1 },
+        _ => 1,
     }
 }
 

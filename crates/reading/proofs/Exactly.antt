@@ -11,6 +11,7 @@ use Rattle.le.specs.Le.{part}
 use Rattle.le.proofs.Laws.{part-take}
 use Rattle.rules.specs.Check.{Rule, verdict, Hold, First, here, behind}
 use Rattle.rules.specs.declared.check.Check.{Check}
+use Rattle.rules.specs.declared.check.Clause.{Clause}
 use Rattle.rules.specs.declared.check.Check.the-variants.{Fine, Broken}
 use Rattle.rules.proofs.Judged.{all-hold, fine-if, first-decides, decided-first}
 use Rattle.cut.specs.declared.Cut.{Cut}
@@ -67,9 +68,9 @@ pub holding : (rs : List Rule) (at : ℕ) (n : Walk) → Hold rs → settle (ver
 unfolding settle
 holding rs at n k = rw (fine-if rs k)
 
-pub breaking : (rs : List Rule) (at : ℕ) (w : Walk) (n p : ℕ) → First rs n p → settle (verdict rs) at w ≡ Refused n (at + p)
+pub breaking : (rs : List Rule) (at : ℕ) (w : Walk) (c : Clause) → First rs c → settle (verdict rs) at w ≡ Refused (c .number) (at + c .place)
 unfolding settle
-breaking rs at w n p k = rw (first-decides k)
+breaking rs at w c k = rw (first-decides k)
 
 module _ (p : List ℕ) (w : Walk) where
   pub settles-generic : (r : Generic) → genericOf (part 32 p (w .at)) ≡ r → blockAt due.Generic p w ≡ settle (verdict (genericRules r)) (w .at) (afterGeneric w (w .at + 32))
@@ -121,8 +122,8 @@ abbrev Within : ℕ → List Rule → Type 0
 Within size [] = Unit {0}
 Within size (r ∷ rs) = (r .place < size) × Within size rs
 
-first-within : {size : ℕ} {rs : List Rule} {n q : ℕ} → First rs n q → Within size rs → q < size
-first-within (here r rs e) h = h .0
+first-within : {size : ℕ} {rs : List Rule} {c : Clause} → First rs c → Within size rs → c .place < size
+first-within (here r rs k e) h = h .0
 first-within (behind r rs e f) h = first-within f (h .1)
 
 rules-within : (d : Due) (f : List ℕ) (w : Walk) → Within (sizeAt d (w .rest .length)) (rulesOf d f w)
@@ -139,14 +140,14 @@ rules-within due.Nothing f w = tt
 -- ---- a refused step: trailing bytes, or the first broken rule of the due block, which lies in that block, or no hope behind it
 
 pub data Refuses (f : List ℕ) (w : Walk) : ℕ → ℕ → Type 0 where
-  by-rule : (n q : ℕ) → isEnd (w .due) ≡ false → w .at + sizeOf w ≤ length f → First (rulesOf (w .due) f w) n q → Refuses f w n (w .at + q)
+  by-rule : (c : Clause) → isEnd (w .due) ≡ false → w .at + sizeOf w ≤ length f → First (rulesOf (w .due) f w) c → Refuses f w (c .number) (w .at + c .place)
   by-end : isEnd (w .due) ≡ true → w .at < length f → Refuses f w 25 (w .at)
   by-hope : isEnd (w .due) ≡ false → w .at + sizeOf w ≤ length f → Hold (rulesOf (w .due) f w) → hopeAt (w .due) (take (w .at + sizeOf w) f) w ≡ false → Refuses f w 40 (w .at)
 
-pub settle-refused : (v : Check) (at : ℕ) (m : Walk) (n p : ℕ) → settle v at m ≡ Refused n p → (q : ℕ) × (v ≡ Broken n q) × (p ≡ at + q)
+pub settle-refused : (v : Check) (at : ℕ) (m : Walk) (n p : ℕ) → settle v at m ≡ Refused n p → (c : Clause) × (v ≡ Broken c) × (c .number ≡ n) × (at + c .place ≡ p)
 unfolding settle
 settle-refused Fine at m n p e = absurd (let z : _≡_ {A = ℕ} 0 1 = cc in omega arith)
-settle-refused (Broken a b) at m n p e = (b, let k : a ≡ n = cc in rw k, cc)
+settle-refused (Broken c) at m n p e = (c, refl, cc, cc)
 
 kept-rules : (rs : List Rule) (at : ℕ) (m n : Walk) → settle (verdict rs) at m ≡ Took n → Hold rs
 kept-rules rs at m n e = all-hold rs (settle-fine (verdict rs) at m n e)
@@ -167,7 +168,7 @@ refuses f w n p e = go (view f w)
         asked (same q) =
             let s = settled (w .due) f w i in
             let x = settle-refused (verdict (rulesOf (w .due) f w)) (w .at) (s .next) n p (sym (s .is) ∙ sym q ∙ sym (is-here f w i h) ∙ e) in
-            subst (Refuses f w n) (sym (x .2)) (by-rule n (x .0) i h (decided-first (rulesOf (w .due) f w) n (x .0) (x .1)))
+            subst (Refuses f w n) (x .3) (subst (λ (m : ℕ). Refuses f w m (w .at + x .0 .place)) (x .2) (by-rule (x .0) i h (decided-first (rulesOf (w .due) f w) (x .0) (x .1))))
         asked (lost m l t q) =
             let s = settled (w .due) f w i in
             let x = refused-same 40 (w .at) n p (sym q ∙ sym (is-here f w i h) ∙ e) in
@@ -184,7 +185,7 @@ pub refused-inside : (f : List ℕ) (w : Walk) (n p : ℕ) → stepOf f w ≡ Re
 refused-inside f w n p e s = go (refuses f w n p e)
   where
     go : {n p : ℕ} → Refuses f w n p → (w .at ≤ p) × (p < w .at + sizeOf w)
-    go (by-rule n q i h x) = let k = first-within x (rules-within (w .due) f w) in (omega arith, omega arith)
+    go (by-rule c i h x) = let k = first-within x (rules-within (w .due) f w) in (omega arith, omega arith)
     go (by-end i h) = (omega arith, s)
     go (by-hope i h k l) = (omega arith, s)
 
@@ -195,16 +196,16 @@ module _ (f : List ℕ) where
   within = last-within true (fuel f) f atStart (omega arith)
 
   refused-only : {n p : ℕ} → Refuses f (stop f) n p → IsRefused f n p
-  refused-only (by-rule n q i h x) = rule n q i h x
+  refused-only (by-rule c i h x) = rule c i h x
   refused-only (by-end i h) = trailing i h
   refused-only (by-hope i h k l) = hopeless i h k l
 
   refused-when : {n p : ℕ} → IsRefused f n p → told f ≡ 2 ∷ n ∷ p ∷ []
   unfolding endingTold stays hoping
-  refused-when (rule n q i h x) =
+  refused-when (rule c i h x) =
       let s = settled (stop f .due) f (stop f) i in
       let b = hopeAt (stop f .due) (take (stop f .at + sizeOf (stop f)) f) (stop f) in
-      ap endingTold (is-here f (stop f) i h ∙ ap (hoping b (stop f .at)) (s .is ∙ breaking _ (stop f .at) (s .next) n q x) ∙ untaken b (stop f .at) (Refused n (stop f .at + q)) tt)
+      ap endingTold (is-here f (stop f) i h ∙ ap (hoping b (stop f .at)) (s .is ∙ breaking _ (stop f .at) (s .next) c x) ∙ untaken b (stop f .at) (Refused (c .number) (stop f .at + c .place)) tt)
   refused-when (trailing i h) = ap endingTold (is-over true f (stop f) i h)
   refused-when (hopeless i h k l) =
       let s = settled (stop f .due) f (stop f) i in

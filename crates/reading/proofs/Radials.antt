@@ -13,7 +13,7 @@ use Rattle.le.specs.Le.{int}
 use Rattle.le.proofs.Laws.{part-take}
 use Rattle.le.proofs.Tests.{both}
 use Rattle.rules.specs.Masks.{withBit}
-use Rattle.rules.specs.Tiling.{tiles, lengthOk}
+use Rattle.rules.specs.Tiling.{tiles, lengthClauses}
 use Rattle.rules.specs.Ranges.{among}
 use Rattle.rules.specs.declared.check.Check.the-variants.{Fine}
 use Rattle.moment.specs.declared.Moment.{Moment}
@@ -246,7 +246,7 @@ all-whole f = each-radial f (AllWhole f) tt (λ w s ss o h r. (o .whole, r))
 
 -- a moment that keeps its rules fits in what is left, and the last leaves nothing
 fits-left : (h : Moment) (d : MomentDue) → momentCheck h d ≡ Fine → (32 + h .length ≤ d .left) × (d .todo ≤ 1 → 32 + h .length ≡ d .left)
-unfolding momentCheck lengthOk tiles
+unfolding momentCheck lengthClauses tiles
 fits-left h d e = go (leb (d .todo) 1) refl
   where
     well : tiles (d .todo) (d .left) (h .length) ≡ true

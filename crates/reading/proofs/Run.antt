@@ -118,7 +118,7 @@ pub data Plain (s : Step) : Type 0 where
 pub settle-plain : (v : Check) (at : ℕ) (n : Walk) → Plain (settle v at n)
 unfolding settle
 settle-plain Fine at n = took n refl
-settle-plain (Broken a b) at n = refused a (at + b) refl
+settle-plain (Broken c) at n = refused (c .number) (at + c .place) refl
 
 pub block-plain : (d : Due) (p : List ℕ) (w : Walk) → isEnd d ≡ false → Plain (blockAt d p w)
 unfolding isEnd blockAt takeGeneric takeSite takeTask takeCut takeRadial takeMoment takeData
@@ -181,12 +181,12 @@ module _ (asked : Bool) where
 pub settle-took : (v : Check) (at : ℕ) (n m : Walk) → settle v at n ≡ Took m → n ≡ m
 unfolding settle
 settle-took Fine at n m e = cc
-settle-took (Broken a b) at n m e = cc
+settle-took (Broken c) at n m e = cc
 
 pub settle-fine : (v : Check) (at : ℕ) (n m : Walk) → settle v at n ≡ Took m → v ≡ Fine
 unfolding settle
 settle-fine Fine at n m e = refl
-settle-fine (Broken a b) at n m e = cc
+settle-fine (Broken c) at n m e = cc
 
 pub took-inj : (x y : Walk) → Took x ≡ Took y → x ≡ y
 took-inj x y e = cc

@@ -5,6 +5,7 @@ use mathlib.Core.List.{List, [], _∷_}
 use mathlib.Core.Path.{_≡_}
 use Prim.Native.Nat.{ℕ, _+_, _<_, _≤_}
 use lib.ListN.{length, take}
+use Rattle.rules.specs.declared.check.Clause.{Clause}
 use Rattle.rules.specs.Check.{Rule, Hold, First}
 use Rattle.cut.specs.Cut.{cutAt, cutRules}
 use Rattle.generic.specs.Generic.{genericAt, genericRules}
@@ -30,11 +31,12 @@ rulesOf due.Moment f w = momentRules (momentAt f (w .at)) (momentDue w)
 rulesOf due.Data f w = []
 rulesOf due.Nothing f w = []
 
--- a file to be refused: its due block is all there, and the first broken rule of that block's list has this number, at this
+-- a file to be refused: its due block is all there, and the first broken clause of that block's list has this number, at this
 -- place less the block's; or bytes follow a complete volume (number 25); or the due block keeps its rules, and no hope is left behind
 -- it (number 40, at the block's first byte: document 02, #110)
 pub data IsRefused (f : List ℕ) : ℕ → ℕ → Type 0 where
-  rule : (n q : ℕ) → isEnd (stop f .due) ≡ false → stop f .at + sizeOf (stop f) ≤ length f → First (rulesOf (stop f .due) f (stop f)) n q → IsRefused f n (stop f .at + q)
+  rule : (c : Clause) → isEnd (stop f .due) ≡ false → stop f .at + sizeOf (stop f) ≤ length f → First (rulesOf (stop f .due) f (stop f)) c
+      → IsRefused f (c .number) (stop f .at + c .place)
   trailing : isEnd (stop f .due) ≡ true → stop f .at < length f → IsRefused f 25 (stop f .at)
   hopeless : isEnd (stop f .due) ≡ false → stop f .at + sizeOf (stop f) ≤ length f → Hold (rulesOf (stop f .due) f (stop f))
       → hopeAt (stop f .due) (take (stop f .at + sizeOf (stop f)) f) (stop f) ≡ false → IsRefused f 40 (stop f .at)

@@ -28,10 +28,10 @@ use Rattle.walk.specs.Due.{sizeOf, isEnd, radialDue, momentDue, cutPlace}
 use Rattle.walk.specs.After.{afterGeneric, afterSite, afterTask, afterCut, afterRadial, afterMoment, afterData}
 use Rattle.walk.specs.Hope.{momentsHope, radialHope}
 
--- a block that keeps its rules is taken; the first broken rule gives the number, and the place in the file
+-- a block that keeps its rules is taken; the first broken clause gives the number, and the place in the file
 unfoldable pub settle : Check → ℕ → Walk → Step
 settle Fine at next = Took next
-settle (Broken n p) at next = Refused n (at + p)
+settle (Broken c) at next = Refused (c .number) (at + c .place)
 
 -- what a record says where it is due: the reader finds it in the file, the writer is handed it
 unfoldable pub takeGeneric : Generic → Walk → Step

@@ -43,7 +43,7 @@ pub(crate) fn settle(check: Check, at: usize, next: Walk) -> Step
 {
     match check {
         Check::Fine => Step::Took(next),
-        Check::Broken(n, p) => Step::Refused(n, at + (p as usize)),
+        Check::Broken(c) => Step::Refused(c.number, at + (c.place as usize)),
     }
 }
 

@@ -6,20 +6,25 @@ use Prim.Native.Nat.{ℕ, _+_, _≤_, _<_}
 use native.Mathlib.Omega.{arith}
 use borrow.Author.Tests.{le-leb, ne-eqb}
 use lib.Dec.{lit<}
+use lib.IntN.{pos}
 use mir.Syntax.{w32}
 use Rattle.le.specs.Le.{int}
-use Rattle.rules.specs.Ranges.{is, counts}
-use Rattle.rules.specs.States.{mostCuts, cutNumberOk, opening, closing, stateOk}
-use Rattle.rules.proofs.Numbers.{inside, some-cut, most, exact, exact-if, counts-is, counts-most, mostCuts-small, opening-small, closing-small}
+use Rattle.le.proofs.Tests.{both}
+use Rattle.rules.specs.Ranges.{among, is, counts, countClauses}
+use Rattle.rules.specs.States.{mostCuts, cutNumberOk, cutNumberClauses, opening, closing, stateOk}
+use Rattle.rules.proofs.Numbers.{inside, some-cut, most, exact, exact-if, counts-is, counts-most, mostCuts-most, mostCuts-small, opening-small, closing-small}
 
 pub cuts-allowed : (scan n : ℕ) → (cutNumberOk scan n ≡ true) ↔ ((1 ≤ n) × (n ≤ mostCuts scan))
-unfolding cutNumberOk
+unfolding cutNumberClauses
 cuts-allowed scan n =
     let small = mostCuts-small scan in
-    (λ e. (some-cut scan n e, most w32 1 (mostCuts scan) n small e), λ h. sym (inside w32 1 (mostCuts scan) n small (h .0) (omega arith)))
+    let any = mostCuts-most scan in (
+      λ e. (some-cut scan n e, most w32 1 (mostCuts scan) n small (both (among (pos 1) (pos 256) (int n)) _ e .1)),
+      λ h. let a = h .0 in let b = h .1 in rw (← inside w32 1 256 n (lit< tt) a (omega arith), ← inside w32 1 (mostCuts scan) n small a (omega arith)),
+    )
 
 pub count-allowed : (most before n : ℕ) → most < 2147483648 → (counts most before n ≡ true) ↔ ((n ≡ before + 1) × (n ≤ most))
-unfolding counts
+unfolding countClauses
 count-allowed most before n small = (
   λ e. let is = counts-is most before n e in let h = counts-most most before n e in (is, omega arith),
   λ h. let e = h .0 in let k = h .1 in rw (exact-if (before + 1) n (omega arith) e, le-leb (before + 1) most (omega arith)),

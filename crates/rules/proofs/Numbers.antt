@@ -13,11 +13,13 @@ use mir.Syntax.{Width, w32}
 use mir.Val.{hbits, toZ}
 use mir.ValLaws.{toZ-pos}
 use borrow.Author.Tests.{le-leb, lt-leb, le-ltb, lt-ltb, eq-eqb, ne-eqb, leb-true, eqb-true}
-use Rattle.le.specs.Le.{int}
+use Rattle.le.specs.Le.{int, short}
 use Rattle.le.proofs.Tests.{both, eqb-same}
-use Rattle.rules.specs.States.{rhi, mostCuts, cutNumberOk, opening, closing}
-use Rattle.rules.specs.Tiling.{momentNumberOk}
-use Rattle.rules.specs.Ranges.{among, is, within, notBelowZero, counts}
+use Rattle.rules.specs.Check.{breaks}
+use Rattle.rules.specs.Masks.{bit, binLengthClauses, binLengthOk}
+use Rattle.rules.specs.States.{rhi, mostCuts, cutNumberOk, cutNumberClauses, opening, closing}
+use Rattle.rules.specs.Tiling.{momentNumberOk, momentNumberClauses}
+use Rattle.rules.specs.Ranges.{among, is, within, notBelowZero, counts, countClauses}
 
 and-false : (b : Bool) → (b && false) ≡ false
 and-false true = refl
@@ -83,20 +85,21 @@ pub over : (lo hi x : ℕ) → suc hi ≤ x → within lo hi x ≡ false
 unfolding within
 over lo hi x a = rw (lt-leb x hi (omega arith)) (and-false (leb lo x))
 
--- one more than what was counted before it, and not past the most: below the sign bit the tests decide
-pub counted : (most before x : ℕ) → most < 2147483648 → 1 ≤ x → x < suc most → eqb (x - 1) before ≡ counts most before x
-unfolding counts
-counted most before x small a b =
-    dite (decLt before most)
-    (λ h. rw (exactly-clear w32 (before + 1) x (omega arith), le-leb (before + 1) most (omega arith)) (eqb-same (x - 1) before x (before + 1) (λ e. omega arith) (λ e. omega arith) ∙ and-true (eqb x (before + 1))))
-    (λ h. rw (lt-leb (before + 1) most (omega arith), ne-eqb (x - 1) before (λ e. omega arith)) (sym (and-false (among (pos (before + 1)) (pos (before + 1)) (toZ w32 x)))))
+-- one more than what was counted before it, and not past the most: which of the two clauses is broken first, as the tests decide
+pub right-count : (most before x : ℕ) → most < 2147483648 → 1 ≤ x → x ≤ most → x - 1 ≡ before → breaks (countClauses most before x) ≡ 0
+unfolding countClauses
+right-count most before x small a b e = rw (exactly-clear w32 (before + 1) x (omega arith), eq-eqb x (before + 1) (omega arith), le-leb (before + 1) most (omega arith))
 
-pub not-counted : (most before x : ℕ) → most < 2147483648 → (1 ≤ x → x < suc most → ⊥) → false ≡ counts most before x
-unfolding counts
-not-counted most before x small o =
-    dite (decLt before most)
-    (λ h. let fits : before + 1 < 2147483648 = omega arith in rw (exactly w32 (before + 1) x fits, ne-eqb x (before + 1) (λ e. o (omega arith) (omega arith))))
-    (λ h. rw (lt-leb (before + 1) most (omega arith)) (sym (and-false (among (pos (before + 1)) (pos (before + 1)) (toZ w32 x)))))
+pub far-count : (most before x : ℕ) → x < 2147483648 → most < x → x - 1 ≡ before → breaks (countClauses most before x) ≡ 2
+unfolding countClauses
+far-count most before x small a e = rw (exactly-clear w32 (before + 1) x small, eq-eqb x (before + 1) (omega arith), lt-leb (before + 1) most (omega arith))
+
+pub wrong-count : (most before x : ℕ) → (x < 2147483648 → 1 ≤ x → x - 1 ≡ before → ⊥) → breaks (countClauses most before x) ≡ 1
+unfolding countClauses
+wrong-count most before x o =
+    dite (decLt x 2147483648)
+    (λ h. rw (exactly-clear w32 (before + 1) x h, ne-eqb x (before + 1) (λ e. o h (omega arith) (omega arith))))
+    (λ h. rw (exactly-set w32 (before + 1) x (omega arith)))
 
 -- one bit of a 64-bit word, as the shift makes it
 pub one-bit : (k : ℕ) → k < 64 → (1 * 2 ^ k) % 18446744073709551616 ≡ 2 ^ k
@@ -121,6 +124,15 @@ pub many-cuts : (scan : ℕ) → (scan ≡ 2 → ⊥) → mostCuts scan ≡ 256
 unfolding mostCuts
 many-cuts scan h = rw (exactly w32 2 scan (lit< tt), ne-eqb scan 2 h)
 
+-- the two clauses of number 23 as one test: at the type's own size
+pub bin-by-size : (sizes t bin : ℕ) → binLengthOk sizes t bin ≡ cond (bit sizes t) (is 2 (short bin)) (is 1 (short bin))
+unfolding binLengthClauses
+bin-by-size sizes t bin = go (bit sizes t)
+  where
+    go : (b : Bool) → (cond b true (is 1 (short bin)) && cond b (is 2 (short bin)) true) ≡ cond b (is 2 (short bin)) (is 1 (short bin))
+    go true = refl
+    go false = sym (and-true (is 1 (short bin)))
+
 -- numbers of the state rules, none of which reaches the sign bit
 small-if : (b : Bool) (x y n : ℕ) → x < n → y < n → cond b x y < n
 small-if true x y n h k = h
@@ -129,6 +141,14 @@ small-if false x y n h k = k
 pub mostCuts-most : (scan : ℕ) → mostCuts scan < 257
 unfolding mostCuts
 mostCuts-most scan = small-if (is 2 (int scan)) 1 256 257 (lit< tt) (lit< tt)
+
+pub mostCuts-some : (scan : ℕ) → 1 ≤ mostCuts scan
+unfolding mostCuts
+mostCuts-some scan = go (is 2 (int scan))
+  where
+    go : (b : Bool) → 1 ≤ cond b 1 256
+    go true = lit< tt
+    go false = lit< tt
 
 pub mostCuts-small : (scan : ℕ) → mostCuts scan < 2147483648
 mostCuts-small scan = let h = mostCuts-most scan in omega arith
@@ -172,23 +192,23 @@ exact n x e =
     (λ h. let k = exactly-set w32 n x (omega arith) in absurd (let z : _≡_ {A = ℕ} 0 1 = cc in omega arith))
 
 pub counts-is : (most before n : ℕ) → counts most before n ≡ true → n ≡ before + 1
-unfolding counts
+unfolding countClauses
 counts-is most before n e = exact (before + 1) n (both _ _ e .0)
 
 -- where the count is not past the most, only the number decides
 pub counts-within : (most before n : ℕ) → before + 1 ≤ most → counts most before n ≡ is (before + 1) (int n)
-unfolding counts
+unfolding countClauses
 counts-within most before n h = rw (le-leb (before + 1) most h) (sym (and-true (is (before + 1) (int n))))
 
 pub counts-most : (most before n : ℕ) → counts most before n ≡ true → before + 1 ≤ most
-unfolding counts
+unfolding countClauses
 counts-most most before n e = leb-true (before + 1) most (both (is (before + 1) (int n)) _ e .1)
 
 -- an accepted task has a cut (number 8), an accepted radial header announces a moment (number 19)
 pub some-cut : (scan n : ℕ) → cutNumberOk scan n ≡ true → 1 ≤ n
-unfolding cutNumberOk
-some-cut scan n e = least w32 1 (mostCuts scan) n (mostCuts-small scan) e
+unfolding cutNumberClauses
+some-cut scan n e = least w32 1 (mostCuts scan) n (mostCuts-small scan) (both (among (pos 1) (pos 256) (int n)) _ e .1)
 
 pub some-moment : (left k : ℕ) → momentNumberOk left k ≡ true → 1 ≤ k
-unfolding momentNumberOk
+unfolding momentNumberClauses
 some-moment left k e = least w32 1 64 k (lit< tt) (both _ _ e .0)

@@ -1,11 +1,13 @@
 -- When a field is in its range (document 01, "Field rules and refusal numbers").
 use mathlib.Core.Bool.{Bool, _&&_, _||_}
+use mathlib.Core.List.{List, [], _∷_}
 use Prim.Native.Nat.{ℕ, _+_}
 use lib.Dec.{leb}
 use lib.Ieee.{Float, binary32, ofBits, ofInt, le}
 use lib.IntN.{ℤ, pos}
 use lib.Signed.{leZ}
 use Rattle.le.specs.Le.{int}
+use Rattle.rules.specs.Check.{every}
 
 -- from lo to hi, both counted in: "lo..hi"
 unfoldable pub among : ℤ → ℤ → ℤ → Bool
@@ -24,8 +26,11 @@ unfoldable pub notBelowZero : ℤ → Bool
 notBelowZero z = leZ (pos 0) z
 
 -- numbers 12 and 13: n is one more than what was counted before it, and that is not past the most
-unfoldable pub counts : ℕ → ℕ → ℕ → Bool
-counts most before n = is (before + 1) (int n) && leb (before + 1) most
+unfoldable pub countClauses : ℕ → ℕ → ℕ → List Bool
+countClauses most before n = is (before + 1) (int n) ∷ leb (before + 1) most ∷ []
+
+abbrev pub counts : ℕ → ℕ → ℕ → Bool
+counts most before n = every (countClauses most before n)
 
 -- number 12: the most radials that a volume may have, which is how far the sequence goes (document 02, #106)
 abbrev pub mostSequence : ℕ

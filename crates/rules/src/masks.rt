@@ -3,7 +3,8 @@ ghost use mathlib.Core.Path.{_≡_};
 ghost use lib.IntN.{pos};
 ghost use Rattle.le.specs.Le.{int};
 ghost use Rattle.rules.specs.Ranges.{among};
-ghost use Rattle.rules.specs.Masks.{bit as bitOf, withBit, typeOk, binLengthOk};
+ghost use Rattle.rules.specs.Check.{breaks};
+ghost use Rattle.rules.specs.Masks.{bit as bitOf, withBit, typeClauses, binLengthClauses};
 
 // Whether a mask has the bit of type t.
 fn bit(mask: u64, t: u32) -> bool
@@ -34,20 +35,27 @@ fn type_in_range(x: u32) -> bool
     }
 }
 
-// Number 20 (table 3-2).
-pub fn type_ok(mask: u64, seen: u64, x: u32) -> bool
-    ensures { λ r. ⌜ r ≡ typeOk mask seen x ⌝ }
+// Which clause of number 20 (table 3-2) a type breaks first.
+pub fn type_breaks(mask: u64, seen: u64, x: u32) -> u8
+    ensures { λ r. ⌜ r ≡ breaks (typeClauses mask seen x) ⌝ }
 {
     if type_in_range(x) {
-        if bit(seen, x) { false } else { bit(mask, x) }
+        if bit(seen, x) {
+            return 2;
+        }
+        if bit(mask, x) { 0 } else { 3 }
     } else {
-        false
+        1
     }
 }
 
-// Number 23 (table 3-2).
-pub fn bin_length_ok(sizes: u64, t: u32, x: u16) -> bool
-    ensures { λ r. ⌜ r ≡ binLengthOk sizes t x ⌝ }
+// Which clause of number 23 (table 3-2) a bin length breaks first.
+pub fn bin_length_breaks(sizes: u64, t: u32, x: u16) -> u8
+    ensures { λ r. ⌜ r ≡ breaks (binLengthClauses sizes t x) ⌝ }
 {
-    if bit(sizes, t) { x == 2 } else { x == 1 }
+    if bit(sizes, t) {
+        if x == 2 { 0 } else { 2 }
+    } else {
+        if x == 1 { 0 } else { 1 }
+    }
 }

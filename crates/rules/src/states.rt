@@ -1,20 +1,19 @@
 // Which radial states are allowed where, and how many cuts a task may have.
 ghost use mathlib.Core.Path.{_≡_};
-ghost use Rattle.rules.specs.States.{cutNumberOk, opening as openingOf, closing as closingOf, stateOk};
+ghost use Rattle.rules.specs.Check.{breaks};
+ghost use Rattle.rules.specs.States.{cutNumberClauses, opening as openingOf, closing as closingOf, stateOk};
 
-// Number 8 (table 2-4).
-pub fn cut_number_ok(scan: u32, x: u32) -> bool
-    ensures { λ r. ⌜ r ≡ cutNumberOk scan x ⌝ }
+// Which clause of number 8 (table 2-4) a cut number breaks first.
+pub fn cut_number_breaks(scan: u32, x: u32) -> u8
+    ensures { λ r. ⌜ r ≡ breaks (cutNumberClauses scan x) ⌝ }
 {
-    match scan {
-        2 => match x {
-            1 => true,
-            _ => false,
+    match x {
+        1 => 0,
+        2..=256 => match scan {
+            2 => 2,
+            _ => 0,
         },
-        _ => match x {
-            1..=256 => true,
-            _ => false,
-        },
+        _ => 1,
     }
 }
 

@@ -5,15 +5,16 @@ ghost use lib.Dec.{eqb};
 ghost use lib.IntN.{pos};
 ghost use Rattle.le.specs.Le.{int};
 ghost use Rattle.rules.specs.Ranges.{among};
-ghost use Rattle.rules.specs.Tiling.{momentNumberOk, tiles, lengthOk};
+ghost use Rattle.rules.specs.Check.{breaks};
+ghost use Rattle.rules.specs.Tiling.{momentNumberClauses, tiles, lengthClauses};
 
-// Number 19 (table 3-1).
-pub fn moment_number_ok(left: u32, x: u32) -> bool
-    ensures { λ r. ⌜ r ≡ momentNumberOk left x ⌝ }
+// Which clause of number 19 (table 3-1) a moment number breaks first.
+pub fn moment_number_breaks(left: u32, x: u32) -> u8
+    ensures { λ r. ⌜ r ≡ breaks (momentNumberClauses left x) ⌝ }
 {
     match x {
-        1..=64 => 33 * x <= left,
-        _ => false,
+        1..=64 => if 33 * x <= left { 0 } else { 2 },
+        _ => 1,
     }
 }
 
@@ -51,17 +52,17 @@ fn multiple(bin: u16, x: u32) -> bool
     }
 }
 
-// Number 24 (table 3-2).
-pub fn length_ok(todo: usize, left: usize, bin: u16, x: u32) -> bool
-    ensures { λ r. ⌜ r ≡ lengthOk todo left bin x ⌝ }
+// Which clause of number 24 (table 3-2) a length breaks first.
+pub fn length_breaks(todo: usize, left: usize, bin: u16, x: u32) -> u8
+    ensures { λ r. ⌜ r ≡ breaks (lengthClauses todo left bin x) ⌝ }
 {
     if length_in_range(x) {
         if multiple(bin, x) {
-            tiles_ok(todo, left, x)
+            if tiles_ok(todo, left, x) { 0 } else { 3 }
         } else {
-            false
+            2
         }
     } else {
-        false
+        1
     }
 }

@@ -60,13 +60,13 @@ pub record SiteFits (r : Site) : Type 0 where
   pub «rda_version» : r .«rda_version» < 256 ^ 4
   pub «radar_type» : r .«radar_type» < 256 ^ 2
 
--- its rules in byte order (table 2-3): place, number, whether it holds
+-- its rules in byte order (table 2-3): place, size, number, clauses
 abbrev pub siteRules : Site → List Rule
 siteRules r =
     -- latitude (table 2-3): -90..90
-    rule 40 3 (angle (negsuc 89) (pos 90) (r .latitude))
+    rule 40 4 3 (angle (negsuc 89) (pos 90) (r .latitude) ∷ [])
     -- longitude (table 2-3): -180..180
-    ∷ rule 44 4 (angle (negsuc 179) (pos 180) (r .longitude))
+    ∷ rule 44 4 4 (angle (negsuc 179) (pos 180) (r .longitude) ∷ [])
     ∷ []
 
 unfoldable pub siteCheck : Site → Check

@@ -118,7 +118,7 @@ impl Site {
         put_reserved(room, at + Self::RESERVED, &reserved);
     }
 
-    // The first broken rule of the block, by its number and place.
+    // The first broken clause of the first broken rule of the block.
     pub fn check(self) -> Check
         ensures { λ r. ⌜ r ≡ siteCheck self ⌝ }
     {
@@ -127,12 +127,14 @@ impl Site {
             angles::latitude_ok(self.latitude),
             3,
             Self::LATITUDE as u8,
+            4,
         );
         let v = also(
             v,
             angles::longitude_ok(self.longitude),
             4,
             Self::LONGITUDE as u8,
+            4,
         );
         v
     }

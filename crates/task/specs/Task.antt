@@ -6,7 +6,7 @@ use lib.ListN.{length}
 use lib.IntN.{pos}
 use Rattle.le.specs.Le.{le, bytes, part, run, int}
 use Rattle.rules.specs.Ranges.{among, notBelowZero}
-use Rattle.rules.specs.States.{cutNumberOk}
+use Rattle.rules.specs.States.{cutNumberClauses}
 use Rattle.task.specs.declared.Task.{Task}
 use Rattle.rules.specs.declared.check.Check.{Check}
 use Rattle.rules.specs.Check.{Rule, rule, verdict}
@@ -70,17 +70,17 @@ pub record TaskFits (r : Task) : Type 0 where
   pub «phase_calibration» : r .«phase_calibration» < 256 ^ 4
   pub «ldr_calibration» : r .«ldr_calibration» < 256 ^ 4
 
--- its rules in byte order (table 2-4): place, number, whether it holds
+-- its rules in byte order (table 2-4): place, size, number, clauses
 abbrev pub taskRules : Task → List Rule
 taskRules r =
     -- polarization (table 2-4): 1..4
-    rule 160 5 (among (pos 1) (pos 4) (int (r .polarization)))
+    rule 160 4 5 (among (pos 1) (pos 4) (int (r .polarization)) ∷ [])
     -- scan type (table 2-4): 0..6
-    ∷ rule 164 6 (among (pos 0) (pos 6) (int (r .«scan_type»)))
+    ∷ rule 164 4 6 (among (pos 0) (pos 6) (int (r .«scan_type»)) ∷ [])
     -- start time (table 2-4): not below 0
-    ∷ rule 172 7 (notBelowZero (int (r .«start_time»)))
+    ∷ rule 172 4 7 (notBelowZero (int (r .«start_time»)) ∷ [])
     -- cut number (table 2-4): 1..256, and 1 while scan type is 2
-    ∷ rule 176 8 (cutNumberOk (r .«scan_type») (r .«cut_number»))
+    ∷ rule 176 4 8 (cutNumberClauses (r .«scan_type») (r .«cut_number»))
     ∷ []
 
 unfoldable pub taskCheck : Task → Check

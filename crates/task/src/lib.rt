@@ -8,6 +8,7 @@ ghost use lib.IntN.{pos};
 ghost use Rattle.task.specs.Task.{taskOf, taskAt, taskBytes, taskSize, taskCheck};
 use rules::check::Check;
 use rules::check::also;
+use rules::check::also_clauses;
 use rules::ranges;
 use rules::states;
 
@@ -146,7 +147,7 @@ impl Task {
         put_reserved(room, at + Self::RESERVED, &reserved);
     }
 
-    // The first broken rule of the block, by its number and place.
+    // The first broken clause of the first broken rule of the block.
     pub fn check(self) -> Check
         ensures { λ r. ⌜ r ≡ taskCheck self ⌝ }
     {
@@ -155,19 +156,22 @@ impl Task {
             polarization_ok(self.polarization),
             5,
             Self::POLARIZATION as u8,
+            4,
         );
-        let v = also(v, scan_type_ok(self.scan_type), 6, Self::SCAN_TYPE as u8);
+        let v = also(v, scan_type_ok(self.scan_type), 6, Self::SCAN_TYPE as u8, 4);
         let v = also(
             v,
             ranges::not_below_zero(self.start_time),
             7,
             Self::START_TIME as u8,
+            4,
         );
-        let v = also(
+        let v = also_clauses(
             v,
-            states::cut_number_ok(self.scan_type, self.cut_number),
+            states::cut_number_breaks(self.scan_type, self.cut_number),
             8,
             Self::CUT_NUMBER as u8,
+            4,
         );
         v
     }

@@ -46,7 +46,7 @@ by-rules : {A : Type 0} (K : Coded A) (a : Accepted) (rest : List ℕ) → Bytes
 by-rules K a rest bs rules size some same next = dite (decLe (dueSize a) (length rest)) (λ h. go h (verdict (rules (K .dec (part (K .size) rest 0)))) refl) (λ h. stops _ (missing a rest (omega arith)))
   where
     go : dueSize a ≤ length rest → (v : Check) → verdict (rules (K .dec (part (K .size) rest 0))) ≡ v → Tried a rest
-    go h (Broken n p) e = stops _ (broken a rest n p h (subst (λ (l : List Rule). First l n p) (sym same) (decided-first (rules (K .dec (part (K .size) rest 0))) n p e)))
+    go h (Broken c) e = stops _ (broken a rest c h (subst (λ (l : List Rule). First l c) (sym same) (decided-first (rules (K .dec (part (K .size) rest 0))) c e)))
     go h Fine e =
         let r = K .dec (part (K .size) rest 0) in
         let g = drop (0 + K .size) rest in
@@ -103,4 +103,4 @@ holds f bs c = let a = accepts f bs in go (a .accepted) (a .rest) (a .verdict) (
     go a rest x ok e (complete v) c = record { volume = v; is = ok; bytes = sym (append-nil (bytesOfVolume v)) ∙ e }
     go a rest x ok e (follow v y ys) c = absurd (let z : _≡_ {A = ℕ} 0 1 = cc in omega arith)
     go a rest x ok e (missing b q h) c = absurd (let z : _≡_ {A = ℕ} 0 1 = cc in omega arith)
-    go a rest x ok e (broken b q n p h k) c = absurd (let z : _≡_ {A = ℕ} 0 1 = cc in omega arith)
+    go a rest x ok e (broken b q l h k) c = absurd (let z : _≡_ {A = ℕ} 0 1 = cc in omega arith)

@@ -17,7 +17,7 @@ use Rattle.le.proofs.Tests.{both}
 use Rattle.le.proofs.Coded.{same}
 use Rattle.rules.specs.Check.{Hold}
 use Rattle.rules.specs.Ranges.{among}
-use Rattle.rules.specs.Tiling.{lengthOk, tiles}
+use Rattle.rules.specs.Tiling.{lengthClauses, tiles}
 use Rattle.rules.proofs.Numbers.{least}
 use Rattle.cut.specs.declared.Cut.{Cut}
 use Rattle.moment.specs.declared.Moment.{Moment}
@@ -36,7 +36,7 @@ use Rattle.volume.proofs.Same.{first-moment, same-moments, closes-same,
 
 -- a moment's data has a byte (number 24)
 some-byte : (m : Moment) (d : MomentDue) → Hold (momentRules m d) → 1 ≤ m .length
-unfolding lengthOk
+unfolding lengthClauses
 some-byte m d h =
     least w32 1 32768 (m .length) (lit< tt)
     (both (among (pos 1) (pos 32768) (toZ w32 (m .length))) (eqb (m .length % m .«bin_length») 0) (both (among (pos 1) (pos 32768) (toZ w32 (m .length)) && eqb (m .length % m .«bin_length») 0) (tiles (d .todo) (d .left) (m .length)) (h .1 .1 .1 .1 .0) .0) .0)

@@ -12,10 +12,10 @@ use mir.Val.{toZ}
 use borrow.Author.Tests.{eqb-true}
 use Rattle.le.proofs.Tests.{both}
 use Rattle.le.specs.Le.{int}
-use Rattle.rules.specs.Masks.{bit, typeOk}
+use Rattle.rules.specs.Masks.{bit, typeOk, typeClauses}
 use Rattle.rules.proofs.Seen.{set-keeps, set-has}
 use Rattle.rules.specs.Ranges.{within, among}
-use Rattle.rules.specs.Tiling.{lengthOk, tiles}
+use Rattle.rules.specs.Tiling.{lengthOk, lengthClauses, tiles}
 use Rattle.rules.proofs.Allowed.{first-allowed}
 use Rattle.rules.proofs.Numbers.{by-bits, opens-only}
 use Rattle.cut.specs.declared.Cut.{Cut}
@@ -28,7 +28,7 @@ use Rattle.volume.proofs.Most.{volume-numbered, volume-most, begun-befo
 
 -- the last moment leaves none
 last-fills : (todo left bin n : ℕ) → todo ≡ 1 → lengthOk todo left bin n ≡ true → 32 + n ≡ left
-unfolding lengthOk tiles
+unfolding lengthClauses tiles
 last-fills todo left bin n one k =
     let e : lengthOk 1 left bin n ≡ true = rw one at k in
     eqb-true (32 + n) left (both (among (pos 1) (pos 32768) (toZ w32 n) && eqb (n % bin) 0) (eqb (32 + n) left) e .1)
@@ -44,7 +44,7 @@ record Admitted (mask seen t : ℕ) : Type 0 where
   masked : bit mask t ≡ true
 
 admitted : (mask seen t : ℕ) → typeOk mask seen t ≡ true → Admitted mask seen t
-unfolding typeOk
+unfolding typeClauses
 admitted mask seen t e =
     let x = both (among (pos 1) (pos 64) (int t) && not (bit seen t)) (bit mask t) e in
     let y = both (among (pos 1) (pos 64) (int t)) (not (bit seen t)) (x .0) in

@@ -11,10 +11,10 @@ use Rattle.le.proofs.Laws.{length-part}
 use Rattle.rules.specs.Check.{Hold, also, verdict}
 use Rattle.rules.specs.declared.check.Check.the-variants.{Fine}
 use Rattle.rules.proofs.Judged.{all-hold}
-use Rattle.rules.specs.Ranges.{among, within, notBelowZero, counts, between, angle}
-use Rattle.rules.specs.States.{rhi, mostCuts, cutNumberOk, opening, closing, stateOk}
-use Rattle.rules.specs.Masks.{bit, withBit, typeOk, binLengthOk}
-use Rattle.rules.specs.Tiling.{momentNumberOk, tiles, lengthOk}
+use Rattle.rules.specs.Ranges.{among, within, notBelowZero, countClauses, between, angle}
+use Rattle.rules.specs.States.{rhi, mostCuts, cutNumberClauses, opening, closing, stateOk}
+use Rattle.rules.specs.Masks.{bit, withBit, typeClauses, binLengthClauses}
+use Rattle.rules.specs.Tiling.{momentNumberClauses, tiles, lengthClauses}
 use Rattle.generic.specs.declared.Generic.{Generic}
 use Rattle.generic.specs.Generic.{genericBytes, genericRules, GenericFits}
 use Rattle.site.specs.declared.Site.{Site}
@@ -107,7 +107,7 @@ radial-fits state n i k hs hn hi hk = record { state = hs; «spot_blank» = lit<
 
 -- the blocks before the radials keep their rules
 head : Hold (genericRules small-generic) × Hold (siteRules small-site) × Hold (taskRules (small-task 1)) × Hold (taskRules (small-task 2))
-unfolding small-generic small-site small-task among angle between le ofInt ofBits notBelowZero cutNumberOk mostCuts also
+unfolding small-generic small-site small-task among angle between le ofInt ofBits notBelowZero cutNumberClauses mostCuts also
 head = (
   all-hold (genericRules small-generic) refl,
   all-hold (siteRules small-site) refl,
@@ -145,7 +145,7 @@ pub record Radials : Type 0 where
   pub closes-last : RadialOk (small-task 2) (small-cut 1) 2 3 1 (small-whole 4 4 2 2 1)
 
 pub small-radials-ok : Radials
-unfolding small-task small-cut small-radial small-moment also among notBelowZero counts angle between le ofInt ofBits stateOk opening closing rhi momentNumberOk typeOk bit within withBit binLengthOk lengthOk tiles
+unfolding small-task small-cut small-radial small-moment also among notBelowZero countClauses angle between le ofInt ofBits stateOk opening closing rhi momentNumberClauses typeClauses bit within withBit binLengthClauses lengthClauses tiles
 small-radials-ok =
     record {
       first = radial-ok 1 2 1 0 0 3 1 1 2 (radial-fits 3 1 1 1 (lit< tt) (lit< tt) (lit< tt) (lit< tt)) (moment-fits 2 (lit< tt)) refl refl;

@@ -8,7 +8,9 @@ use lib.ListN.{length, take, length-drop}
 use Rattle.le.specs.Le.{part}
 use Rattle.le.proofs.Laws.{part-take, part-drop}
 use Rattle.le.proofs.Here.{At}
-use Rattle.rules.specs.Check.{Rule, First, here, behind}
+use Rattle.rules.specs.declared.check.Clause.{Clause}
+use Rattle.rules.specs.Check.{First}
+use Rattle.rules.proofs.Judged.{held-first}
 use Rattle.walk.specs.declared.due.Walk.{Walk}
 use Rattle.walk.specs.Due.{isEnd, sizeOf}
 use Rattle.reading.specs.declared.step.Step.{Step}
@@ -31,12 +33,8 @@ Going (radial b r) = Unit {0}
 Going (moment b r m) = Unit {0}
 Going (volume v) = ⊥
 
-pub none-first : (n p : ℕ) → First [] n p → ⊥
-none-first n p k = go [] n p k refl
-  where
-    go : (rs : List Rule) (n p : ℕ) → First rs n p → rs ≡ [] → ⊥
-    go rs n p (here r qs h) e = let z : _≡_ {A = ℕ} 0 1 = cc in omega arith
-    go rs n p (behind r qs h q) e = let z : _≡_ {A = ℕ} 0 1 = cc in omega arith
+pub none-first : (c : Clause) → First [] c → ⊥
+none-first c k = held-first k tt
 
 -- what stands in the due block's bytes stands at the front of those that follow
 pub front : (n : ℕ) (f : List ℕ) (at : ℕ) (rest : List ℕ) → At f at rest → part n (take (at + n) f) at ≡ part n rest 0
@@ -52,7 +50,7 @@ left-over f at rest a = let h = a .within in let l : length f - at ≡ length re
 
 -- a block is due
 pub stop-before : (a : Accepted) (f : List ℕ) (rest x : List ℕ) (w : Walk) → Going a → isEnd (w .due) ≡ false → sizeOf w ≡ dueSize a → At f (w .at) rest → w .at ≡ length (bytesOfAccepted a)
-    → ((n p : ℕ) → w .at + sizeOf w ≤ length f → First (dueRules a rest) n p → plainStep f w ≡ Refused n (w .at + p)) → Says a rest x → Finishes f (Ends f x (length (bytesOfAccepted a))) w []
+    → ((c : Clause) → w .at + sizeOf w ≤ length f → First (dueRules a rest) c → plainStep f w ≡ Refused (c .number) (w .at + c .place)) → Says a rest x → Finishes f (Ends f x (length (bytesOfAccepted a))) w []
 unfolding stays endingTold
 stop-before a f rest x w g i s r e refuses (complete v) = absurd g
 stop-before a f rest x w g i s r e refuses (follow v y ys) = absurd g
@@ -60,9 +58,9 @@ stop-before a f rest x w g i s r e refuses (missing b q h) =
     let l = left-over f (w .at) q r in
     let m : w .at + sizeOf w - length f ≡ dueSize b - length q = omega arith in
     stop-as f w (Open (w .at + sizeOf w - length f)) _ _ tt (is-short false f w i (omega arith)) (ap (λ (n : ℕ). 1 ∷ n ∷ []) m) e
-stop-before a f rest x w g i s r e refuses (broken b q n p h k) =
+stop-before a f rest x w g i s r e refuses (broken b q c h k) =
     let l = left-over f (w .at) q r in
-    stop-as f w (Refused n (w .at + p)) _ _ tt (refuses n p (omega arith) k) (ap (λ (m : ℕ). 2 ∷ n ∷ (m + p) ∷ []) e) e
+    stop-as f w (Refused (c .number) (w .at + c .place)) _ _ tt (refuses c (omega arith) k) (ap (λ (m : ℕ). 2 ∷ c .number ∷ (m + c .place) ∷ []) e) e
 
 -- a volume is over
 pub stop-behind : (v : Volume) (f : List ℕ) (rest x : List ℕ) (w : Walk) → isEnd (w .due) ≡ true → At f (w .at) rest → w .at ≡ length (bytesOfVolume v) → Says (volume v) rest x
@@ -73,4 +71,4 @@ stop-behind v f rest x w i r e (follow u y ys) =
     let l = left-over f (w .at) (y ∷ ys) r in
     stop-as f w (Refused 25 (w .at)) _ _ tt (is-over false f w i (omega arith)) (ap (λ (m : ℕ). 2 ∷ 25 ∷ m ∷ []) e) e
 stop-behind v f rest x w i r e (missing b q h) = absurd (omega arith)
-stop-behind v f rest x w i r e (broken b q n p h k) = absurd (none-first n p k)
+stop-behind v f rest x w i r e (broken b q c h k) = absurd (none-first c k)

@@ -162,7 +162,7 @@ module _ (rest x : List ℕ) where
   stop-nothing says =
       let i : At rest 0 rest = record { within = omega arith; rest = refl } in
       stop-before nothing rest rest x atStart tt refl refl i refl
-      (λ n p h k. plain-here rest atStart refl h ∙ settles-generic (take 32 rest) atStart (genericAt rest 0) (ap genericOf (front 32 rest 0 rest i)) ∙ breaking (genericRules (genericAt rest 0)) 0 _ n p k) says
+      (λ c h k. plain-here rest atStart refl h ∙ settles-generic (take 32 rest) atStart (genericAt rest 0) (ap genericOf (front 32 rest 0 rest i)) ∙ breaking (genericRules (genericAt rest 0)) 0 _ c k) says
 
   stop-generic : (g : Generic) → Says (generic g) rest x → At (fileOf (generic g)) 32 rest → Stops (generic g) (afterGeneric atStart 32) []
   unfolding isEnd sizeAt siteAt
@@ -170,7 +170,7 @@ module _ (rest x : List ℕ) where
       let f = fileOf (generic g) in
       let w = afterGeneric atStart 32 in
       stop-before (generic g) f rest x w tt refl refl i (ends-at (genericBytes g) rest 32 i)
-      (λ n p h k. plain-here f w refl h ∙ settles-site (take 160 f) w (siteAt rest 0) (ap siteOf (front 128 f 32 rest i)) ∙ breaking (siteRules (siteAt rest 0)) 32 _ n p k) says
+      (λ c h k. plain-here f w refl h ∙ settles-site (take 160 f) w (siteAt rest 0) (ap siteOf (front 128 f 32 rest i)) ∙ breaking (siteRules (siteAt rest 0)) 32 _ c k) says
 
   stop-site : (g : Generic) (s : Site) → Says (site g s) rest x → At (fileOf (site g s)) 160 rest → Stops (site g s) (afterSite (afterGeneric atStart 32) 160) []
   unfolding isEnd sizeAt taskAt
@@ -178,7 +178,7 @@ module _ (rest x : List ℕ) where
       let f = fileOf (site g s) in
       let w = afterSite (afterGeneric atStart 32) 160 in
       stop-before (site g s) f rest x w tt refl refl i (ends-at (genericBytes g ++ siteBytes s) rest 160 i)
-      (λ n p h k. plain-here f w refl h ∙ settles-task (take 416 f) w (taskAt rest 0) (ap taskOf (front 256 f 160 rest i)) ∙ breaking (taskRules (taskAt rest 0)) 160 _ n p k) says
+      (λ c h k. plain-here f w refl h ∙ settles-task (take 416 f) w (taskAt rest 0) (ap taskOf (front 256 f 160 rest i)) ∙ breaking (taskRules (taskAt rest 0)) 160 _ c k) says
 
   stop-task : (g : Generic) (s : Site) (t : Task) (cs : List Cut) (j at todo : ℕ) → Says (task g s t cs) rest x → At (fileOf (task g s t cs)) at rest → Stops (task g s t cs) (cutWalk t j at todo) []
   unfolding isEnd sizeAt cutAt
@@ -186,7 +186,7 @@ module _ (rest x : List ℕ) where
       let f = fileOf (task g s t cs) in
       let w = cutWalk t j at todo in
       stop-before (task g s t cs) f rest x w tt refl refl i (ends-at (bytesOfAccepted (task g s t cs)) rest at i)
-      (λ n p h k. plain-here f w refl h ∙ settles-cut (take (at + 256) f) w (cutAt rest 0) (ap cutOf (front 256 f at rest i)) ∙ breaking (cutRules (cutAt rest 0)) at _ n p k) says
+      (λ c h k. plain-here f w refl h ∙ settles-cut (take (at + 256) f) w (cutAt rest 0) (ap cutOf (front 256 f at rest i)) ∙ breaking (cutRules (cutAt rest 0)) at _ c k) says
 
   stop-radials : (b : Begun) (at : ℕ) (pr : Present) (re : Rest) → Says (radials b) rest x → At (fileOf (radials b)) at rest
       → Stops (radials b) (radialWalk (b .task) (numberOf b) (radialsIn (b .closed) + length (b .now)) (length (b .now)) at pr re) []
@@ -195,7 +195,7 @@ module _ (rest x : List ℕ) where
       let f = fileOf (radials b) in
       let w = radialWalk (b .task) (numberOf b) (radialsIn (b .closed) + length (b .now)) (length (b .now)) at pr re in
       stop-before (radials b) f rest x w tt refl refl i (ends-at (bytesOfVolume (volumeOf b)) rest at i)
-      (λ n p h k. plain-here f w refl h ∙ settles-radial (take (at + 64) f) w (radialAt rest 0) _ (ap radialOf (front 64 f at rest i)) refl ∙ breaking (radialRules (radialAt rest 0) (dueRadial b)) at _ n p k) says
+      (λ c h k. plain-here f w refl h ∙ settles-radial (take (at + 64) f) w (radialAt rest 0) _ (ap radialOf (front 64 f at rest i)) refl ∙ breaking (radialRules (radialAt rest 0) (dueRadial b)) at _ c k) says
 
   stop-radial : (b : Begun) (r : VolumeRadial) (start at len : ℕ) → Says (radial b r) rest x → At (fileOf (radial b r)) at rest
       → Stops (radial b r) (momentWalk (b .task) (b .cut) (numberOf b) (r .header) (radialsIn (b .closed) + length (b .now)) start at (restOf (r .header) (reverse (r .moments)) len)) []
@@ -204,11 +204,11 @@ module _ (rest x : List ℕ) where
       let f = fileOf (radial b r) in
       let w = momentWalk (b .task) (b .cut) (numberOf b) (r .header) (radialsIn (b .closed) + length (b .now)) start at (restOf (r .header) (reverse (r .moments)) len) in
       stop-before (radial b r) f rest x w tt refl refl i (ends-at (bytesOfAccepted (radial b r)) rest at i)
-      (λ n p h k. plain-here f w refl h ∙ settles-moment (take (at + 32) f) w (momentAt rest 0) (ap momentOf (front 32 f at rest i)) ∙ breaking (momentRules (momentAt rest 0) (dueMoment b r)) at _ n p k) says
+      (λ c h k. plain-here f w refl h ∙ settles-moment (take (at + 32) f) w (momentAt rest 0) (ap momentOf (front 32 f at rest i)) ∙ breaking (momentRules (momentAt rest 0) (dueMoment b r)) at _ c k) says
 
   stop-moment : (b : Begun) (r : VolumeRadial) (m : Moment) (w : Walk) → isEnd (w .due) ≡ false → sizeOf w ≡ m .length → Says (moment b r m) rest x → At (fileOf (moment b r m)) (w .at) rest → Stops (moment b r m) w []
   stop-moment b r m w e s says i =
-      stop-before (moment b r m) (fileOf (moment b r m)) rest x w tt e s i (ends-at (bytesOfAccepted (moment b r m)) rest (w .at) i) (λ n p h k. absurd (none-first n p k)) says
+      stop-before (moment b r m) (fileOf (moment b r m)) rest x w tt e s i (ends-at (bytesOfAccepted (moment b r m)) rest (w .at) i) (λ c h k. absurd (none-first c k)) says
 
 -- ---- all of it
 

@@ -5,9 +5,9 @@ use mathlib.Core.Path.{_≡_, refl, ap, subst, _∙_}
 use mathlib.Core.List.{List, [], _∷_, _++_}
 use lib.ListN.{length, take}
 use Rattle.le.specs.Le.{le, bytes, part, run}
-use Rattle.rules.specs.Check.{First, here, behind}
+use Rattle.rules.specs.Check.{First, here, behind, broken}
 use Rattle.rules.specs.Ranges.{among, notBelowZero}
-use Rattle.rules.specs.States.{mostCuts, cutNumberOk}
+use Rattle.rules.specs.States.{mostCuts, cutNumberClauses}
 use Rattle.cut.specs.Cut.{cutBytes}
 use Rattle.generic.specs.Generic.{genericBytes}
 use Rattle.moment.specs.Moment.{momentBytes}
@@ -87,13 +87,13 @@ unfolding last-due small-whole small-radial small-moment radialBytes momentBytes
 first-radials = first-told .radials
 
 -- 257 cuts: refused 8 at 336
-first-broken : First (taskRules (taskAt (taskBytes (small-task 257)) 0)) 8 176
-unfolding small-task taskAt taskOf taskBytes run le bytes part among notBelowZero cutNumberOk mostCuts
-first-broken = behind _ _ refl (behind _ _ refl (behind _ _ refl (here _ _ refl)))
+first-broken : First (taskRules (taskAt (taskBytes (small-task 257)) 0)) (record { number = 8; which = 1; place = 176; size = 4 })
+unfolding small-task taskAt taskOf taskBytes run le bytes part among notBelowZero cutNumberClauses mostCuts
+first-broken = behind _ _ refl (behind _ _ refl (behind _ _ refl (here _ _ 1 (broken _ _ refl))))
 
 pub cuts-refused : plainTold (genericBytes small-generic ++ siteBytes small-site ++ taskBytes (small-task 257)) ≡ 2 ∷ 8 ∷ 336 ∷ []
 unfolding small small-generic small-site small-task genericBytes siteBytes taskBytes run bytes part
 cuts-refused =
     tells (site small-generic small-site) (taskBytes (small-task 257)) (2 ∷ 8 ∷ 336 ∷ []) (small-is .headed .generic, small-is .headed .site)
-    (broken (site small-generic small-site) (taskBytes (small-task 257)) 8 176 (omega arith) first-broken)
+    (broken (site small-generic small-site) (taskBytes (small-task 257)) _ (omega arith) first-broken)
     .verdict

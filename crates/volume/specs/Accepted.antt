@@ -4,6 +4,7 @@
 use Prim.Native.Nat.{ℕ, suc, _+_, _-_, _<_, _≤_}
 use mathlib.Core.List.{List, [], _∷_, _++_, reverse}
 use lib.ListN.{length}
+use Rattle.rules.specs.declared.check.Clause.{Clause}
 use Rattle.rules.specs.Check.{Rule, Hold, First}
 use Rattle.cut.specs.declared.Cut.{Cut}
 use Rattle.generic.specs.declared.Generic.{Generic}
@@ -151,5 +152,6 @@ pub data Says : Accepted → List ℕ → List ℕ → Type 0 where
   follow : (v : Volume) (x : ℕ) (xs : List ℕ) → Says (volume v) (x ∷ xs) (2 ∷ 25 ∷ length (bytesOfVolume v) ∷ [])
   -- the due block is not all there
   missing : (a : Accepted) (rest : List ℕ) → length rest < dueSize a → Says a rest (1 ∷ (dueSize a - length rest) ∷ [])
-  -- it is all there, and its first broken rule gives number and place
-  broken : (a : Accepted) (rest : List ℕ) (n p : ℕ) → dueSize a ≤ length rest → First (dueRules a rest) n p → Says a rest (2 ∷ n ∷ (length (bytesOfAccepted a) + p) ∷ [])
+  -- it is all there, and its first broken clause gives number and place
+  broken : (a : Accepted) (rest : List ℕ) (c : Clause) → dueSize a ≤ length rest → First (dueRules a rest) c
+      → Says a rest (2 ∷ c .number ∷ (length (bytesOfAccepted a) + c .place) ∷ [])

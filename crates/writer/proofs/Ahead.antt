@@ -7,7 +7,7 @@ use mathlib.Core.List.{List, _++_}
 use lib.Dec.{lit<}
 use lib.ListN.{length}
 use mir.Syntax.{w32}
-use Rattle.rules.specs.Tiling.{lengthOk}
+use Rattle.rules.specs.Tiling.{lengthOk, lengthClauses}
 use Rattle.rules.proofs.Numbers.{below}
 use Rattle.moment.specs.declared.Moment.{Moment}
 use Rattle.moment.specs.Moment.{momentCheck, momentRules}
@@ -30,7 +30,7 @@ Some d w = isEnd d ≡ false → 1 ≤ sizeAt d (w .rest .length)
 
 -- number 24 keeps data from being empty
 length-some : (todo left bin n : ℕ) → lengthOk todo left bin n ≡ true → 1 ≤ n
-unfolding lengthOk
+unfolding lengthClauses
 length-some todo left bin zero e =
     let f : false ≡ true = rw (sym (below w32 1 32768 0 (lit< tt) (omega arith))) at e in
     absurd (let z : _≡_ {A = ℕ} 0 1 = cc in omega arith)

@@ -6,16 +6,16 @@ use Rattle.moment.proofs.Moment.check.Tie as tie
 returns : tie.Need-returns
 unfolding momentCheck
 returns c = rw (
-  c .also5 .ensures,
-  c .before .length-ok .ensures,
-  c .before .before .also4 .ensures,
-  c .before .before .before .bin-length-ok .ensures,
-  c .before .before .before .before .also3 .ensures,
+  c .also-clauses3 .ensures,
+  c .before .length-breaks .ensures,
+  c .before .before .also-clauses2 .ensures,
+  c .before .before .before .bin-length-breaks .ensures,
+  c .before .before .before .before .also2 .ensures,
   c .before .before .before .before .before .offset-ok .ensures,
-  c .before .before .before .before .before .before .also2 .ensures,
+  c .before .before .before .before .before .before .also .ensures,
   c .before .before .before .before .before .before .before .scale-ok .ensures,
-  c .before .before .before .before .before .before .before .before .also .ensures,
-  c .before .before .before .before .before .before .before .before .before .type-ok .ensures,
+  c .before .before .before .before .before .before .before .before .also-clauses .ensures,
+  c .before .before .before .before .before .before .before .before .before .type-breaks .ensures,
 )
 
 pub check-spec : {M : Type 1} → statement M

@@ -5,7 +5,7 @@ use Rattle.rules.proofs.check.also.Tie as tie
 
 returns : tie.Need-returns
 unfolding also
-returns c = search needs
+returns c = rw (c .before .enum-told .given .1, c .if1 .taken)
 
 returns-2 : tie.Need-returns-2
 unfolding also

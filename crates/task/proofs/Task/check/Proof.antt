@@ -6,8 +6,8 @@ use Rattle.task.proofs.Task.check.Tie as tie
 returns : tie.Need-returns
 unfolding taskCheck
 returns c = rw (
-  c .also4 .ensures,
-  c .before .cut-number-ok .ensures,
+  c .also-clauses .ensures,
+  c .before .cut-number-breaks .ensures,
   c .before .before .also3 .ensures,
   c .before .before .before .not-below-zero .ensures,
   c .before .before .before .before .also2 .ensures,
