@@ -95,10 +95,16 @@ def unpack(kind, block):
 
 
 # --------------------------------------------------------------------------
-# "Field rules and refusal numbers", the table. A rule is
-# (number, field, lowest, highest, further condition or None); the condition
-# gets the value, the block's own record and Where it stands in the volume.
+# "Field rules and refusal numbers", the table. A rule is all that the table says of a
+# field: its clauses, a line for each, in the table's order. A clause says what is broken
+# (document 02, #104, cites it so) and what keeps it: the field's range, or a condition that
+# gets the value, the block's own record and Where it stands in the volume. Where no clause
+# is about the range, it follows from the conditions, and says which values are worth a try.
 # NaN is in no range and minus zero is zero, as Python compares floats.
+Rule = namedtuple('Rule', 'number field lowest highest clauses')
+Clause = namedtuple('Clause', 'broken keeps')
+IN_RANGE = None
+
 
 class Where:
     """What the rules need to know of the blocks before."""
@@ -122,10 +128,6 @@ def bit(mask, t):
     return mask >> (t - 1) & 1
 
 
-def cut_number_ok(v, f, at):                            # 8, second clause; #103: of type 2 alone
-    return v == 1 or f['scan type'] != 2
-
-
 def state_ok(v, f, at):                                 # 10, "States"
     if at.rhi:                                          # #103: each cut opened by 5, closed by 6
         return v == 5 if at.in_cut == 0 else v in (1, 6)
@@ -134,55 +136,123 @@ def state_ok(v, f, at):                                 # 10, "States"
     return v == 1 or v == (2 if at.cut < at.cuts else 4)
 
 
-def length_ok(v, f, at):                                # 24, "Tiling"
-    if v % f['bin length'] != 0:
-        return False
+def tiles(v, f, at):                                    # 24, "Tiling"
     left = at.left - 32 - v
     return left == 0 if at.after == 0 else left >= 33 * at.after
 
 
+def size_bit(f, at):                                    # 23
+    return bit(at.sizes, f['type'])
+
+
+def rule(number, field, lowest, highest, *clauses):
+    """A clause is given by its words alone where it is the range, else with what keeps it."""
+    return Rule(number, field, lowest, highest, [
+        Clause(c, IN_RANGE) if isinstance(c, str) else Clause(*c) for c in clauses])
+
+
 RULES = {
     'generic': [
-        (1, 'magic', MAGIC, MAGIC, None),
-        (2, 'generic type', 1, 1, None)],
+        rule(1, 'magic', MAGIC, MAGIC,
+             'it differs from the magic, bytes 52 53 54 4D'),
+        rule(2, 'generic type', 1, 1,
+             'it is not 1')],
     'site': [
-        (3, 'latitude', -90, 90, None),
-        (4, 'longitude', -180, 180, None)],
+        rule(3, 'latitude', -90, 90,
+             'it is not in -90..90'),
+        rule(4, 'longitude', -180, 180,
+             'it is not in -180..180')],
     'task': [
-        (5, 'polarization', 1, 4, None),
-        (6, 'scan type', 0, 6, None),
-        (7, 'start time', 0, INT_MAX, None),
-        (8, 'cut number', 1, MOST_CUTS, cut_number_ok)],
+        rule(5, 'polarization', 1, 4,
+             'it is not 1..4'),
+        rule(6, 'scan type', 0, 6,
+             'it is not 0..6'),
+        rule(7, 'start time', 0, INT_MAX,
+             'it is below 0'),
+        rule(8, 'cut number', 1, MOST_CUTS,
+             'it is not 1..256',
+             ('it is not 1, while scan type is 2',      # #103: of type 2 alone
+              lambda v, f, at: v == 1 or f['scan type'] != 2))],
     'cut': [
-        (9, 'process mode', 1, 2, None),
-        (9, 'wave form', 0, 6, None),
-        (9, 'unfold mode', 1, 4, None),
-        (9, 'log resolution', 1, 5000, None),
-        (9, 'Doppler resolution', 1, 5000, None),
-        (9, 'phase mode', 1, 3, None)],
+        rule(9, 'process mode', 1, 2,
+             'it is not 1..2'),
+        rule(9, 'wave form', 0, 6,
+             'it is not 0..6'),
+        rule(9, 'unfold mode', 1, 4,
+             'it is not 1..4'),
+        rule(9, 'log resolution', 1, 5000,
+             'it is not 1..5000'),
+        rule(9, 'Doppler resolution', 1, 5000,
+             'it is not 1..5000'),
+        rule(9, 'phase mode', 1, 3,
+             'it is not 1..3')],
     'radial': [
-        (10, 'state', 0, 6, state_ok),
-        (11, 'spot blank', 0, 1, None),
-        (12, 'sequence', 1, MOST_SEQUENCE, lambda v, f, at: v == at.before + 1),
-        (13, 'radial number', 1, MOST_IN_CUT, lambda v, f, at: v == at.in_cut + 1),
-        (14, 'elevation number', 1, MOST_CUTS, lambda v, f, at: v == at.cut),
-        (15, 'azimuth', 0, 360, None),
-        (16, 'elevation', -2, 90, None),
-        (17, 'seconds', 0, INT_MAX, None),
-        (17, 'microseconds', 0, 999999, None),
-        (18, 'length of data', 1, MOST_LENGTH, None),
-        (19, 'moment number', 1, 64, lambda v, f, at: 33 * v <= f['length of data'])],
+        rule(10, 'state', 0, 6,
+             ('this state is not allowed here', state_ok)),
+        rule(11, 'spot blank', 0, 1,
+             'it is not 0..1'),
+        rule(12, 'sequence', 1, MOST_SEQUENCE,
+             ('it is not 1 more than the radials before it', lambda v, f, at: v == at.before + 1),
+             'it would pass 65,536'),
+        rule(13, 'radial number', 1, MOST_IN_CUT,
+             ("it is not the radial's count in its cut, from 1", lambda v, f, at: v == at.in_cut + 1),
+             'the count is over 1000'),
+        rule(14, 'elevation number', 1, MOST_CUTS,
+             ("it is not the cut's number", lambda v, f, at: v == at.cut)),
+        rule(15, 'azimuth', 0, 360,
+             'it is not in 0..360'),
+        rule(16, 'elevation', -2, 90,
+             'it is not in -2..90'),
+        rule(17, 'seconds', 0, INT_MAX,
+             'it is below 0'),
+        rule(17, 'microseconds', 0, 999999,
+             'it is not 0..999,999'),
+        rule(18, 'length of data', 1, MOST_LENGTH,
+             'it is not 1..100,000'),
+        rule(19, 'moment number', 1, 64,
+             'it is not 1..64',
+             ('33 times it is over the length of data', lambda v, f, at: 33 * v <= f['length of data']))],
     'moment': [
-        (20, 'type', 1, 64, lambda v, f, at: v not in at.seen and bit(at.mask, v) == 1),
-        (21, 'scale', 1, 32768, None),
-        (22, 'offset', 0, 32768, None),
-        (23, 'bin length', 1, 2, lambda v, f, at: v == 1 + bit(at.sizes, f['type'])),
-        (24, 'length', 1, MOST_DATA, length_ok)],
+        rule(20, 'type', 1, 64,
+             'it is not 1..64',
+             ('it was seen before in this radial', lambda v, f, at: v not in at.seen),
+             ("its bit in the cut's moments mask is 0", lambda v, f, at: bit(at.mask, v) == 1)),
+        rule(21, 'scale', 1, 32768,
+             'it is not 1..32,768'),
+        rule(22, 'offset', 0, 32768,
+             'it is not 0..32,768'),
+        rule(23, 'bin length', 1, 2,
+             ("it is not 1, while the type's bit in the cut's size mask is 0",
+              lambda v, f, at: v == 1 or size_bit(f, at) == 1),
+             ("it is not 2, while the type's bit in the cut's size mask is 1",
+              lambda v, f, at: v == 2 or size_bit(f, at) == 0)),
+        rule(24, 'length', 1, MOST_DATA,
+             'it is not 1..32,768',
+             ('it is not a multiple of bin length', lambda v, f, at: v % f['bin length'] == 0),
+             ('it is wrong for the tiling: the last moment leaves no byte, any other 33 for each after it',
+              tiles))],
     'data': [],
 }
 for _kind, _rules in RULES.items():                     # fields in byte order
-    _places = [PLACE[_kind, _rule[1]] for _rule in _rules]
-    assert _places == sorted(_places), _kind
+    _places = [PLACE[_kind, _rule.field] for _rule in _rules]
+    assert _places == sorted(set(_places)), _kind
+
+
+def keeps(rule, clause, record, at):
+    v = record[rule.field]
+    if clause.keeps is IN_RANGE:
+        return rule.lowest <= v <= rule.highest
+    return clause.keeps(v, record, at)
+
+
+def first_broken(kind, record, at):
+    """The rule of the first bad field and the first clause of it that is broken, or None."""
+    for rule in RULES[kind]:
+        for clause in rule.clauses:
+            if not keeps(rule, clause, record, at):
+                return rule, clause
+        assert rule.lowest <= record[rule.field] <= rule.highest
+    return None
 
 
 # --------------------------------------------------------------------------
@@ -301,10 +371,10 @@ class Reading:
         if missing > 0:                                 # checked only when all is there
             raise End(('open', missing))
         record = {} if kind == 'data' else unpack(kind, self.data[place:place + size])
-        for number, name, lo, hi, further in RULES[kind]:
-            v = record[name]
-            if not lo <= v <= hi or further and not further(v, record, at):
-                raise End(refused(number, place + PLACE[kind, name]))
+        broken = first_broken(kind, record, at)
+        if broken:
+            rule, _ = broken
+            raise End(refused(rule.number, place + PLACE[kind, rule.field]))
         if not hope(kind, record, at):
             raise End(refused(40, place))
         self.bytes_read = place + size
@@ -479,13 +549,112 @@ def read(data):
 
 
 # --------------------------------------------------------------------------
+# Document 02, #104: why a file is refused, and why a gate is as it is.
+# A block that is cited: which one of its kind, from 1, and of a moment also its radial.
+CitedBlock = namedtuple('CitedBlock', 'kind nth radial place', defaults=[None] * 3)
+# a field that is cited, or a gate's code: what stands in it, as bytes and as a number
+Cited = namedtuple('Cited', 'name place size bytes value')
+# number and place as reading tells them; which clause of the field's rule, from 1, and its words
+Why = namedtuple('Why', 'number place block field clause broken')
+# the five that give a gate's answer, and the answer
+WhyGate = namedtuple('WhyGate', 'type scale offset bin_length code gate')
+# a question refused, with what there is: 30 the whole radials, 31 the radial's place, 32 the moment's gates
+NoGate = namedtuple('NoGate', 'number place there_is')
+
+TRAILING = 'bytes follow the volume that this radial closes'            # 25
+NO_HOPE = 'no further bytes would make the file complete'               # 40
+
+
+def cited(data, kind, place, name):
+    """A field of the block that stands at this place."""
+    start, fmt = place + PLACE[kind, name], FORMAT[kind, name]
+    raw = data[start:start + struct.calcsize(fmt)]
+    return Cited(name, start, len(raw), raw, struct.unpack(fmt, raw)[0])
+
+
+def due_block(r):
+    """The block at which reading ended. A radial goes by its sequence, whatever its own field says."""
+    sequence = r.at.before + 1
+    return {'cut': CitedBlock('cut', len(r.cuts) + 1),
+            'radial': CitedBlock('radial', sequence),
+            'moment': CitedBlock('moment', len(r.at.seen) + 1, sequence),
+            }.get(r.due, CitedBlock(r.due))._replace(place=r.bytes_read)
+
+
+def why_trailing(r):
+    """"Trailing bytes cite the closing radial", which is the last whole one."""
+    last = r.radials[-1]
+    assert last.state in (4, 6) and last.end == r.bytes_read
+    block = CitedBlock('radial', last.sequence, place=last.place)
+    return Why(25, last.end, block, cited(r.data, 'radial', last.place, 'state'), 1, TRAILING)
+
+
+def why_broken(r):
+    """The first broken clause of the block that is due."""
+    block = due_block(r)
+    end = block.place + SIZES[block.kind]
+    rule, clause = first_broken(block.kind, unpack(block.kind, r.data[block.place:end]), r.at)
+    field = cited(r.data, block.kind, block.place, rule.field)
+    return Why(rule.number, field.place, block, field, rule.clauses.index(clause) + 1, clause.broken)
+
+
+def why(data):
+    """The verdict where nothing is refused, else the block, its field, what was found and the clause."""
+    r = read(data)
+    if r.verdict == 'complete' or r.verdict[0] == 'open':
+        return r.verdict
+    number = r.verdict[1]
+    if number == 25:
+        told = why_trailing(r)
+    elif number == 40:                                  # "cites that block without a field"
+        told = Why(40, r.bytes_read, due_block(r), None, 1, NO_HOPE)
+    else:
+        told = why_broken(r)
+    assert refused(told.number, told.place) == r.verdict
+    return told
+
+
+def gate_by(type, scale, offset, bin_length, code):
+    """The gate that the cited bytes give, by the formula and without a look at the file."""
+    type, scale, offset, bin_length = (
+        int.from_bytes(raw, 'little', signed=True) for raw in (type, scale, offset, bin_length))
+    assert len(code) == bin_length
+    return gate_of(int.from_bytes(code, 'little'), scale, offset, type)
+
+
+def why_no_gate(r, answer, n, t):
+    _, number, place = answer
+    if number == 30:
+        return NoGate(number, place, len(r.radials))
+    if number == 31:
+        return NoGate(number, place, r.radials[n - 1].place)
+    return NoGate(number, place, len(r.gates(n, t)))
+
+
+def why_gate(data, n, t, i):
+    """What is cited for gate i, from 0, and the gate as that alone gives it."""
+    r = read(data)
+    answer = r.gate(n, t, i)
+    if not isinstance(answer, Gate):
+        return why_no_gate(r, answer, n, t)
+    m = r.find(n, t)
+    fields = [cited(r.data, 'moment', m.header_place, name) for name in ('type', 'scale', 'offset', 'bin length')]
+    place = m.place + i * m.bin_length
+    code = r.data[place:place + m.bin_length]
+    fields.append(Cited('code', place, len(code), code, int.from_bytes(code, 'little')))
+    given = gate_by(*(field.bytes for field in fields))
+    assert given == answer                              # what the gate question answers
+    return WhyGate(*fields, given)
+
+
+# --------------------------------------------------------------------------
 # Document 02, #110: what completes a file that is told open at a block's end.
 
 def lowest(kind, **given):
     """A block in which each field that has a rule holds the lowest of its range, unless
     it is given ('_' in a name stands for a space); every other byte is 0."""
     out = bytearray(SIZES[kind])
-    fields = {name: lo for _, name, lo, _, _ in RULES[kind]}
+    fields = {rule.field: rule.lowest for rule in RULES[kind]}
     fields |= {name.replace('_', ' '): value for name, value in given.items()}
     for name, value in fields.items():
         struct.pack_into(FORMAT[kind, name], out, PLACE[kind, name], value)

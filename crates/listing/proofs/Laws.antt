@@ -3,7 +3,7 @@ use mathlib.Core.Path.{_≡_, refl, ap, subst, _∙_}
 use mathlib.Core.List.{List, [], _∷_, _++_, flatMap}
 use Prim.Native.Nat.{ℕ, zero, suc, _+_, _≤_, _<_}
 use native.Mathlib.Omega.{arith}
-use lib.ListN.{length, take, length-take, length-drop}
+use lib.ListN.{length, take}
 use lib.Seq.{take-all}
 use Rattle.moments.specs.declared.Ahead.{Ahead}
 use Rattle.moments.specs.declared.Ahead.the-variants as ahead
@@ -19,10 +19,6 @@ use Rattle.listing.specs.declared.Line.{Line}
 use Rattle.listing.specs.declared.Next.{Next}
 use Rattle.listing.specs.declared.Next.the-variants.{There, End}
 use Rattle.listing.specs.Listing.{momentLines, linesIn, linesOf, atBegin, radialOr, momentOr, lineOf, behind, listed}
-
--- what lies in a stretch's bytes lies in the file
-pub in-file : (f : List ℕ) (s : Stretch) (n : ℕ) → 0 < n → n ≤ length (bytesOf f s) → s .start + n ≤ length f
-in-file f s n some h = omega (arith, simp (length-take, length-drop) at h)
 
 -- the lines that a cursor has ahead: those of the present radial's moments still to come, and of the radials behind it
 unfoldable pub linesAt : List ℕ → Cursor → List Line

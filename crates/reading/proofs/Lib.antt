@@ -1,3 +1,4 @@
+pub mod Closing
 pub mod Counts
 pub mod Growing
 pub mod Grown

@@ -7,7 +7,7 @@ use mathlib.Core.Bool.{Bool, true, false, not, _&&_}
 use mathlib.Core.List.{List, [], _∷_}
 use lib.Dec.{eqb, leb, ltb}
 use lib.IntN.{pos}
-use lib.ListN.{length, take}
+use lib.ListN.{length, take, length-take, length-drop}
 use borrow.Author.Tests.{eqb-true, eqb-false, leb-true, leb-false}
 use Rattle.le.specs.Le.{int}
 use Rattle.le.proofs.Laws.{part-take}
@@ -33,7 +33,7 @@ use Rattle.reading.specs.declared.step.Step.the-variants.{Took}
 use Rattle.walk.specs.Due.{sizeAt, dueIf, endsRadial, radialDue, atStart}
 use Rattle.walk.specs.After.{closesCut, afterRadial, afterMoment}
 use Rattle.reading.specs.Step.{takeGeneric, takeSite, takeTask, takeCut, takeRadial, takeMoment, takeData, cutIn, blockAt, stepOf}
-use Rattle.reading.specs.Reading.{fuel, stretch, trace, stretches, advanceIf, onTo, advanceOf}
+use Rattle.reading.specs.Reading.{fuel, stretch, trace, stretches, advanceIf, onTo, advanceOf, bytesOf}
 use Rattle.reading.specs.Tiling.{dueWith, Tiled, none, more, WholeRadial, AllWhole}
 use Rattle.reading.proofs.Loops.{further, no-more}
 use Rattle.reading.proofs.Run.{settle-fine, settle-took, dataThen, took-more, took-last, due-either, ends-data, left, taken, run-holds, enough}
@@ -280,3 +280,7 @@ said f s x =
       cut = x .cut ∙ sym (h .elevation);
       end = tiled-end f _ _ _ _ _ _ _ (x .moments) (h .some);
     }
+
+-- what lies in a stretch's bytes lies in the file
+pub in-file : (f : List ℕ) (s : Stretch) (n : ℕ) → 0 < n → n ≤ length (bytesOf f s) → s .start + n ≤ length f
+in-file f s n some h = omega (arith, simp (length-take, length-drop) at h)

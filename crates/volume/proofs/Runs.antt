@@ -35,11 +35,11 @@ before-block f E w m b ss i h e t r =
 abbrev pub Ends : List ℕ → List ℕ → ℕ → Walk → Type 0
 Ends f x at w = (endingTold (plainStep f w) ≡ x) × (w .at ≡ at)
 
--- the stop: a step that takes no block
-pub at-stop : (f : List ℕ) (w : Walk) (s : Step) → stays s → plainStep f w ≡ s → Finishes f (Ends f (endingTold s) (w .at)) w []
-at-stop f w s h e =
+-- the stop: a step that takes no block; what else holds of the walk
+pub at-stop : (f : List ℕ) (P : Walk → Type 0) (w : Walk) (s : Step) → stays s → plainStep f w ≡ s → P w → Finishes f (λ v. Ends f (endingTold s) (w .at) v × P v) w []
+at-stop f P w s h e p =
     let o : stays (plainStep f w) = subst⁻¹ stays e h in
     record {
-      ends = subst⁻¹ (Ends f (endingTold s) (w .at)) (run-stays false (λ v. v) (λ v n r. r) (fuel f) f w o) (ap endingTold e, refl);
+      ends = subst⁻¹ (λ (v : Walk). Ends f (endingTold s) (w .at) v × P v) (run-stays false (λ v. v) (λ v n r. r) (fuel f) f w o) ((ap endingTold e, refl), p);
       stretches = run-stays false (λ v. []) stretchOf (fuel f) f w o;
     }

@@ -25,23 +25,24 @@ use Rattle.task.specs.Task.{taskOf, taskAt, taskBytes, taskRules}
 use Rattle.generic.proofs.Trips as generic-trip
 use Rattle.site.proofs.Trips as site-trip
 use Rattle.task.proofs.Trips as task-trip
+use Rattle.walk.specs.declared.due.Due.the-variants as due
 use Rattle.walk.specs.declared.due.Present.{Present}
 use Rattle.walk.specs.declared.due.Rest.{Rest}
 use Rattle.walk.specs.declared.due.Walk.{Walk}
 use Rattle.walk.specs.Due.{cutPlace, atStart, isEnd, endsRadial, sizeAt, sizeOf, dueIf}
 use Rattle.walk.specs.After.{afterGeneric, afterSite}
 use Rattle.reading.specs.declared.Stretch.{Stretch}
-use Rattle.reading.specs.Reading.{stretchIf}
+use Rattle.reading.specs.Reading.{plainStop, stretchIf}
 use Rattle.reading.proofs.Run.{plain-here}
 use Rattle.volume.specs.Volume.{VolumeRadial, GenericOk, SiteOk, TaskOk, CutsOk, LayersOk, bytesOfMoment, bytesOfRadial, bytesOfVolume}
 use Rattle.volume.specs.Accepted.{Begun, Accepted, nothing, generic, site, task, radials, radial, moment, volume, volumeOf, bytesOfAccepted, radialsIn, dueRadial, dueMoment, BegunOk, RadialBegun, AcceptedOk, Says}
 use Rattle.volume.specs.Meaning.{endOf, layerStretches, layersStretches, firstPlace, volumeStretches, acceptedStretches, Told}
-use Rattle.volume.proofs.Runs.{Finishes, Ends, before-block}
+use Rattle.volume.proofs.Runs.{Finishes, before-block}
 use Rattle.reading.proofs.Exactly.{holding, breaking, settles-generic, settles-site, settles-task, settles-cut, settles-radial, settles-moment}
 use Rattle.volume.proofs.Takes.{radialWalk, momentWalk, restOf, cutWalk, nowhere}
 use Rattle.volume.proofs.Forth.{Known, header-on, moments-begun, radial-header, unclosed}
 use Rattle.volume.proofs.Layers.{CutsAt, cuts-at, cut-behind, endsAt, end-after, ends-after, stretches-end, layers-on, layers-whole, cuts-on}
-use Rattle.volume.proofs.Stops.{none-first, front, stop-before, stop-behind}
+use Rattle.volume.proofs.Stops.{Behind, Stops, none-first, front, stop-before, stop-behind}
 use Rattle.le.proofs.Laws.{run-end}
 
 -- ---- the blocks before the radials
@@ -154,85 +155,87 @@ module _ (rest x : List ℕ) where
   abbrev fileOf : Accepted → List ℕ
   fileOf a = bytesOfAccepted a ++ rest
 
-  abbrev Stops : Accepted → Walk → List Stretch → Type 0
-  Stops a w ss = Finishes (fileOf a) (Ends (fileOf a) x (length (bytesOfAccepted a))) w ss
+  abbrev Halts : Accepted → Walk → List Stretch → Type 0
+  Halts a w ss = Finishes (fileOf a) (Stops a (fileOf a) x) w ss
 
-  stop-nothing : Says nothing rest x → Stops nothing atStart []
+  stop-nothing : Says nothing rest x → Halts nothing atStart []
   unfolding isEnd sizeAt genericAt
   stop-nothing says =
       let i : At rest 0 rest = record { within = omega arith; rest = refl } in
-      stop-before nothing rest rest x atStart tt refl refl i refl
+      stop-before nothing rest rest x atStart tt refl refl refl i refl
       (λ c h k. plain-here rest atStart refl h ∙ settles-generic (take 32 rest) atStart (genericAt rest 0) (ap genericOf (front 32 rest 0 rest i)) ∙ breaking (genericRules (genericAt rest 0)) 0 _ c k) says
 
-  stop-generic : (g : Generic) → Says (generic g) rest x → At (fileOf (generic g)) 32 rest → Stops (generic g) (afterGeneric atStart 32) []
+  stop-generic : (g : Generic) → Says (generic g) rest x → At (fileOf (generic g)) 32 rest → Halts (generic g) (afterGeneric atStart 32) []
   unfolding isEnd sizeAt siteAt
   stop-generic g says i =
       let f = fileOf (generic g) in
       let w = afterGeneric atStart 32 in
-      stop-before (generic g) f rest x w tt refl refl i (ends-at (genericBytes g) rest 32 i)
+      stop-before (generic g) f rest x w tt refl refl refl i (ends-at (genericBytes g) rest 32 i)
       (λ c h k. plain-here f w refl h ∙ settles-site (take 160 f) w (siteAt rest 0) (ap siteOf (front 128 f 32 rest i)) ∙ breaking (siteRules (siteAt rest 0)) 32 _ c k) says
 
-  stop-site : (g : Generic) (s : Site) → Says (site g s) rest x → At (fileOf (site g s)) 160 rest → Stops (site g s) (afterSite (afterGeneric atStart 32) 160) []
+  stop-site : (g : Generic) (s : Site) → Says (site g s) rest x → At (fileOf (site g s)) 160 rest → Halts (site g s) (afterSite (afterGeneric atStart 32) 160) []
   unfolding isEnd sizeAt taskAt
   stop-site g s says i =
       let f = fileOf (site g s) in
       let w = afterSite (afterGeneric atStart 32) 160 in
-      stop-before (site g s) f rest x w tt refl refl i (ends-at (genericBytes g ++ siteBytes s) rest 160 i)
+      stop-before (site g s) f rest x w tt refl refl refl i (ends-at (genericBytes g ++ siteBytes s) rest 160 i)
       (λ c h k. plain-here f w refl h ∙ settles-task (take 416 f) w (taskAt rest 0) (ap taskOf (front 256 f 160 rest i)) ∙ breaking (taskRules (taskAt rest 0)) 160 _ c k) says
 
-  stop-task : (g : Generic) (s : Site) (t : Task) (cs : List Cut) (j at todo : ℕ) → Says (task g s t cs) rest x → At (fileOf (task g s t cs)) at rest → Stops (task g s t cs) (cutWalk t j at todo) []
+  stop-task : (g : Generic) (s : Site) (t : Task) (cs : List Cut) (j at todo : ℕ) → todo ≡ t .«cut_number» - length cs → Says (task g s t cs) rest x → At (fileOf (task g s t cs)) at rest → Halts (task g s t cs) (cutWalk t j at todo) []
   unfolding isEnd sizeAt cutAt
-  stop-task g s t cs j at todo says i =
+  stop-task g s t cs j at todo left says i =
       let f = fileOf (task g s t cs) in
       let w = cutWalk t j at todo in
-      stop-before (task g s t cs) f rest x w tt refl refl i (ends-at (bytesOfAccepted (task g s t cs)) rest at i)
+      stop-before (task g s t cs) f rest x w tt (refl, refl, left) refl refl i (ends-at (bytesOfAccepted (task g s t cs)) rest at i)
       (λ c h k. plain-here f w refl h ∙ settles-cut (take (at + 256) f) w (cutAt rest 0) (ap cutOf (front 256 f at rest i)) ∙ breaking (cutRules (cutAt rest 0)) at _ c k) says
 
   stop-radials : (b : Begun) (at : ℕ) (pr : Present) (re : Rest) → Says (radials b) rest x → At (fileOf (radials b)) at rest
-      → Stops (radials b) (radialWalk (b .task) (numberOf b) (radialsIn (b .closed) + length (b .now)) (length (b .now)) at pr re) []
+      → Halts (radials b) (radialWalk (b .task) (numberOf b) (radialsIn (b .closed) + length (b .now)) (length (b .now)) at pr re) []
   unfolding isEnd sizeAt radialAt
   stop-radials b at pr re says i =
       let f = fileOf (radials b) in
       let w = radialWalk (b .task) (numberOf b) (radialsIn (b .closed) + length (b .now)) (length (b .now)) at pr re in
-      stop-before (radials b) f rest x w tt refl refl i (ends-at (bytesOfVolume (volumeOf b)) rest at i)
+      stop-before (radials b) f rest x w tt (refl, refl) refl refl i (ends-at (bytesOfVolume (volumeOf b)) rest at i)
       (λ c h k. plain-here f w refl h ∙ settles-radial (take (at + 64) f) w (radialAt rest 0) _ (ap radialOf (front 64 f at rest i)) refl ∙ breaking (radialRules (radialAt rest 0) (dueRadial b)) at _ c k) says
 
-  stop-radial : (b : Begun) (r : VolumeRadial) (start at len : ℕ) → Says (radial b r) rest x → At (fileOf (radial b r)) at rest
-      → Stops (radial b r) (momentWalk (b .task) (b .cut) (numberOf b) (r .header) (radialsIn (b .closed) + length (b .now)) start at (restOf (r .header) (reverse (r .moments)) len)) []
+  stop-radial : (b : Begun) (r : VolumeRadial) (start at len : ℕ) → start ≡ length (bytesOfVolume (volumeOf b)) → Says (radial b r) rest x → At (fileOf (radial b r)) at rest
+      → Halts (radial b r) (momentWalk (b .task) (b .cut) (numberOf b) (r .header) (radialsIn (b .closed) + length (b .now)) start at (restOf (r .header) (reverse (r .moments)) len)) []
   unfolding isEnd sizeAt momentAt
-  stop-radial b r start at len says i =
+  stop-radial b r start at len place says i =
       let f = fileOf (radial b r) in
       let w = momentWalk (b .task) (b .cut) (numberOf b) (r .header) (radialsIn (b .closed) + length (b .now)) start at (restOf (r .header) (reverse (r .moments)) len) in
-      stop-before (radial b r) f rest x w tt refl refl i (ends-at (bytesOfAccepted (radial b r)) rest at i)
+      stop-before (radial b r) f rest x w tt (refl, refl, place) refl refl i (ends-at (bytesOfAccepted (radial b r)) rest at i)
       (λ c h k. plain-here f w refl h ∙ settles-moment (take (at + 32) f) w (momentAt rest 0) (ap momentOf (front 32 f at rest i)) ∙ breaking (momentRules (momentAt rest 0) (dueMoment b r)) at _ c k) says
 
-  stop-moment : (b : Begun) (r : VolumeRadial) (m : Moment) (w : Walk) → isEnd (w .due) ≡ false → sizeOf w ≡ m .length → Says (moment b r m) rest x → At (fileOf (moment b r m)) (w .at) rest → Stops (moment b r m) w []
+  stop-moment : (b : Begun) (r : VolumeRadial) (m : Moment) (w : Walk) → w .due ≡ due.Data → sizeOf w ≡ m .length → Says (moment b r m) rest x → At (fileOf (moment b r m)) (w .at) rest → Halts (moment b r m) w []
+  unfolding isEnd
   stop-moment b r m w e s says i =
-      stop-before (moment b r m) (fileOf (moment b r m)) rest x w tt e s i (ends-at (bytesOfAccepted (moment b r m)) rest (w .at) i) (λ c h k. absurd (none-first c k)) says
+      stop-before (moment b r m) (fileOf (moment b r m)) rest x w tt e (ap isEnd e) s i (ends-at (bytesOfAccepted (moment b r m)) rest (w .at) i) (λ c h k. absurd (none-first c k)) says
 
 -- ---- all of it
 
 -- a radial's header and its moments so far
 radial-on : (b : Begun) (r : VolumeRadial) (f : List ℕ) (E : Walk → Type 0) (g : List ℕ) → BegunOk b → RadialBegun b r → f ≡ bytesOfVolume (volumeOf b) ++ (bytesOfRadial r ++ g)
-    → ((at len : ℕ) → At f at g → Finishes f E (momentWalk (b .task) (b .cut) (numberOf b) (r .header) (radialsIn (b .closed) + length (b .now)) (placeOf b) at (restOf (r .header) (reverse (r .moments)) len)) [])
+    → (placeOf b ≡ length (bytesOfVolume (volumeOf b)) → (at len : ℕ) → At f at g → Finishes f E (momentWalk (b .task) (b .cut) (numberOf b) (r .header) (radialsIn (b .closed) + length (b .now)) (placeOf b) at (restOf (r .header) (reverse (r .moments)) len)) [])
     → Finishes f E atStart (volumeStretches (volumeOf b))
 radial-on b r f E g ok begun e next =
     let h = r .header in
     let few = begun .fewer in
     subst (Finishes f E atStart) (append-nil (volumeStretches (volumeOf b)))
     (begun-on f E b (bytesOfRadial r ++ g) [] ok e
-    (λ pr re known i. radial-header f E (b .task) (b .cut) (numberOf b) h (radialsIn (b .closed) + length (b .now)) (length (b .now)) (placeOf b) (run bytesOfMoment (r .moments) ++ g) pr re [] (begun .fits) (begun .rules) (known (placeOf b + 64) (omega arith))
+    (λ pr re known i. let place = ends-at (bytesOfVolume (volumeOf b)) (bytesOfRadial r ++ g) (placeOf b) (subst (λ (l : List ℕ). At l (placeOf b) (bytesOfRadial r ++ g)) e i) in
+    radial-header f E (b .task) (b .cut) (numberOf b) h (radialsIn (b .closed) + length (b .now)) (length (b .now)) (placeOf b) (run bytesOfMoment (r .moments) ++ g) pr re [] (begun .fits) (begun .rules) (known (placeOf b + 64) (omega arith))
     (subst (At f (placeOf b)) (append-assoc (radialBytes h) (run bytesOfMoment (r .moments)) g) i)
     (λ i. moments-begun f E (b .task) (b .cut) (numberOf b) h (radialsIn (b .closed) + length (b .now)) (placeOf b) (r .moments) [] (placeOf b + 64) 0 _ g [] (begun .moments) (omega arith) i refl
-    (λ len i. next _ len i))))
+    (λ len i. next place _ len i))))
 
 module _ (rest x : List ℕ) where
-  finishes : (a : Accepted) → AcceptedOk a → Says a rest x → Stops rest x a atStart (acceptedStretches a)
+  finishes : (a : Accepted) → AcceptedOk a → Says a rest x → Halts rest x a atStart (acceptedStretches a)
   unfolding isEnd sizeAt run dueIf
   finishes nothing ok says = stop-nothing rest x says
   finishes (generic g) ok says = from-generic _ _ g rest [] ok refl (stop-generic rest x g says)
   finishes (site g s) ok says = from-generic _ _ g _ [] (ok .0) (append-assoc (genericBytes g) (siteBytes s) rest) (λ i. from-site _ _ s rest [] (ok .1) i (stop-site rest x g s says))
-  finishes (task g s t []) ok says = from-heads _ _ g s t rest [] (ok .0) (ok .1) (ok .2) (none (genericBytes g) (siteBytes s) (taskBytes t)) (λ i. stop-task rest x g s t [] 0 416 (t .«cut_number») says i)
+  finishes (task g s t []) ok says = from-heads _ _ g s t rest [] (ok .0) (ok .1) (ok .2) (none (genericBytes g) (siteBytes s) (taskBytes t)) (λ i. stop-task rest x g s t [] 0 416 (t .«cut_number») (omega arith) says i)
     where
       none : (a b c : List ℕ) → ((((a ++ b) ++ c) ++ []) ++ []) ++ rest ≡ a ++ (b ++ (c ++ rest))
       none a b c = simp (append-assoc, append-nil)
@@ -242,22 +245,22 @@ module _ (rest x : List ℕ) where
       let z : length (c ∷ cs) + more ≡ t .«cut_number» = omega arith in
       let q : leb (suc more) 1 ≡ false = lt-leb (suc more) 1 (omega arith) in
       let f = fileOf rest x (task g s t (c ∷ cs)) in
-      let E = Ends f x (length (bytesOfAccepted (task g s t (c ∷ cs)))) in
+      let E = Stops (task g s t (c ∷ cs)) f x in
       from-heads f E g s t (run cutBytes (c ∷ cs) ++ rest) [] (ok .0) (ok .1) (ok .2) (some (genericBytes g) (siteBytes s) (taskBytes t) (run cutBytes (c ∷ cs)))
       (λ i. subst (λ (n : ℕ). Finishes f E (cutWalk t 0 416 n) []) z (cuts-on f E t cs c more 0 416 _ rest [] (ok .4) i refl
-      (λ i. rw q (stop-task rest x g s t (c ∷ cs) 1 (416 + 256 * length (c ∷ cs)) (suc more - 1) says i))))
+      (λ i. rw q (stop-task rest x g s t (c ∷ cs) 1 (416 + 256 * length (c ∷ cs)) (suc more - 1) (omega arith) says i))))
     where
       some : (a b c d : List ℕ) → ((((a ++ b) ++ c) ++ d) ++ []) ++ rest ≡ a ++ (b ++ (c ++ (d ++ rest)))
       some a b c d = simp (append-assoc, append-nil)
   finishes (radials b) ok says =
-      subst (Stops rest x (radials b) atStart) (append-nil (volumeStretches (volumeOf b))) (begun-on _ _ b rest [] ok refl (λ pr re known i. stop-radials rest x b (placeOf b) pr re says i))
+      subst (Halts rest x (radials b) atStart) (append-nil (volumeStretches (volumeOf b))) (begun-on _ _ b rest [] ok refl (λ pr re known i. stop-radials rest x b (placeOf b) pr re says i))
   finishes (radial b r) ok says =
-      radial-on b r _ _ rest (ok .0) (ok .1) (append-assoc (bytesOfVolume (volumeOf b)) (bytesOfRadial r) rest) (λ at len i. stop-radial rest x b r (placeOf b) at len says i)
+      radial-on b r _ _ rest (ok .0) (ok .1) (append-assoc (bytesOfVolume (volumeOf b)) (bytesOfRadial r) rest) (λ place at len i. stop-radial rest x b r (placeOf b) at len place says i)
   finishes (moment b r m) ok says =
       let f = fileOf rest x (moment b r m) in
-      let E = Ends f x (length (bytesOfAccepted (moment b r m))) in
+      let E = Stops (moment b r m) f x in
       radial-on b r f E (momentBytes m ++ rest) (ok .0) (ok .1) (regroup (bytesOfVolume (volumeOf b)) (bytesOfRadial r) (momentBytes m))
-      (λ at len i. header-on f E (b .task) (b .cut) (numberOf b) (r .header) (radialsIn (b .closed) + length (b .now)) (placeOf b) (reverse (r .moments)) (record { header = m; bytes = [] }) at len rest [] (ok .2) (ok .3) i
+      (λ place at len i. header-on f E (b .task) (b .cut) (numberOf b) (r .header) (radialsIn (b .closed) + length (b .now)) (placeOf b) (reverse (r .moments)) (record { header = m; bytes = [] }) at len rest [] (ok .2) (ok .3) i
       (λ i. stop-moment rest x b r m _ refl refl says i))
     where
       regroup : (a b c : List ℕ) → ((a ++ b) ++ c) ++ rest ≡ a ++ (b ++ (c ++ rest))
@@ -268,7 +271,7 @@ module _ (rest x : List ℕ) where
       f = bytesOfVolume v ++ rest
 
       E : Walk → Type 0
-      E = Ends f x (length (bytesOfVolume v))
+      E = Stops (volume v) f x
 
       regroup : (a b c d e : List ℕ) → ((((a ++ b) ++ c) ++ d) ++ e) ++ rest ≡ a ++ (b ++ (c ++ (d ++ (e ++ rest))))
       regroup a b c d e = simp append-assoc
@@ -289,4 +292,8 @@ module _ (rest x : List ℕ) where
           (λ co pr re i. stop-behind v f rest x _ refl i (ends-at (bytesOfVolume v) rest _ i) says))))
 
 pub tells : (a : Accepted) (rest x : List ℕ) → AcceptedOk a → Says a rest x → Told (bytesOfAccepted a ++ rest) a x
-tells a rest x ok says = let r = finishes rest x a ok says in record { verdict = r .ends .0; read = r .ends .1; radials = r .stretches }
+tells a rest x ok says = let r = finishes rest x a ok says in record { verdict = r .ends .0 .0; read = r .ends .0 .1; radials = r .stretches }
+
+-- and reading stops at the walk that stands behind them
+pub stands-behind : (a : Accepted) (rest x : List ℕ) → AcceptedOk a → Says a rest x → Behind a (plainStop (bytesOfAccepted a ++ rest))
+stands-behind a rest x ok says = finishes rest x a ok says .ends .1

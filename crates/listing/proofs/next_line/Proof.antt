@@ -7,7 +7,7 @@ use Rattle.moments.specs.Moments.{aheadOf}
 use Rattle.moments.proofs.Laws.{there}
 use Rattle.reading.specs.Reading.{bytesOf}
 use Rattle.listing.specs.Listing.{momentOr}
-use Rattle.listing.proofs.Laws.{in-file}
+use Rattle.reading.proofs.Radials.{in-file}
 use Rattle.listing.proofs.next_line.Statement.{statement}
 use Rattle.listing.proofs.next_line.Tie as tie
 

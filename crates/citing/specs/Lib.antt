@@ -1,0 +1,3 @@
+pub mod Fields
+pub mod Answers
+pub mod Refusals
