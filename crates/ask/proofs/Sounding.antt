@@ -79,14 +79,14 @@ header-sound b p d e r =
 -- ---- a radial's own stretch and the file
 
 module _ (f : List ℕ) (s : Stretch) (h : Placed f s) where
-  own-long : length (bytesOf f s) ≡ s .end - s .start
+  pub own-long : length (bytesOf f s) ≡ s .end - s .start
   own-long = let a = h .header in let b = h .within in simp (length-take, length-drop) (omega arith)
 
-  own-part : (n at : ℕ) → at + n ≤ s .end - s .start → part n (bytesOf f s) at ≡ part n f (s .start + at)
+  pub own-part : (n at : ℕ) → at + n ≤ s .end - s .start → part n (bytesOf f s) at ≡ part n f (s .start + at)
   own-part n at k =
       part-take n (drop (s .start) f) at (s .end - s .start) k ∙ part-drop n (s .start) f at
 
-  own-moment : (at : ℕ) → at + 32 ≤ s .end - s .start → momentAt (bytesOf f s) at ≡ momentAt f (s .start + at)
+  pub own-moment : (at : ℕ) → at + 32 ≤ s .end - s .start → momentAt (bytesOf f s) at ≡ momentAt f (s .start + at)
   unfolding momentAt
   own-moment at k = ap momentOf (own-part 32 at k)
 

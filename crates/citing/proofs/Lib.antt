@@ -1,1 +1,4 @@
+pub mod Alone
+pub mod Grounds
+pub mod Stops
 pub mod Whys

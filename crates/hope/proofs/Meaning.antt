@@ -75,7 +75,7 @@ reads-volume v is =
 -- ---- what says nothing of hope
 
 -- a block is due, with a byte at least, but behind a volume
-some-due : (a : Accepted) → AcceptedOk a → (0 < dueSize a) ⊎ ((v : Volume) × (a ≡ volume v))
+pub some-due : (a : Accepted) → AcceptedOk a → (0 < dueSize a) ⊎ ((v : Volume) × (a ≡ volume v))
 unfolding lengthClauses
 some-due nothing ok = inl (lit< tt)
 some-due (generic g) ok = inl (lit< tt)

@@ -23,16 +23,16 @@ use Rattle.volume.specs.Volume.{Volume, bytesOfVolume}
 use Rattle.volume.specs.Accepted.{Accepted, nothing, generic, site, task, radials, radial, moment, volume, volumeOf, bytesOfAccepted, dueRadial, dueMoment, dueSize, dueRules, Says, complete, follow, missing, broken}
 use Rattle.volume.proofs.Runs.{Finishes, Ends, at-stop}
 
--- the walk that stands behind accepted blocks: which block is due; of a cut which one; what a radial or a moment is judged against;
--- and where the radial of a moment stands, behind so many
+-- the walk that stands behind accepted blocks: which block is due; of a cut which one; what a radial or a moment is judged against, where
+-- the moment's radial stands and behind how many; how long data is
 abbrev pub Behind : Accepted → Walk → Type 0
 Behind nothing w = w .due ≡ due.Generic
 Behind (generic g) w = w .due ≡ due.Site
 Behind (site g s) w = w .due ≡ due.Task
 Behind (task g s t cs) w = (w .due ≡ due.Cut) × (w .plan .cuts ≡ t .«cut_number») × (w .rest .todo ≡ t .«cut_number» - length cs)
 Behind (radials b) w = (w .due ≡ due.Radial) × (radialDue w ≡ dueRadial b)
-Behind (radial b r) w = (w .due ≡ due.Moment) × (momentDue w ≡ dueMoment b r) × (w .present .start ≡ length (bytesOfVolume (volumeOf b)))
-Behind (moment b r m) w = w .due ≡ due.Data
+Behind (radial b r) w = (w .due ≡ due.Moment) × (momentDue w ≡ dueMoment b r) × (w .present .start ≡ length (bytesOfVolume (volumeOf b))) × (w .count .whole ≡ dueRadial b .before)
+Behind (moment b r m) w = (w .due ≡ due.Data) × (w .rest .length ≡ m .length)
 Behind (volume v) w = w .due ≡ due.Nothing
 
 -- some block is due

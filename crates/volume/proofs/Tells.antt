@@ -25,6 +25,7 @@ use Rattle.task.specs.Task.{taskOf, taskAt, taskBytes, taskRules}
 use Rattle.generic.proofs.Trips as generic-trip
 use Rattle.site.proofs.Trips as site-trip
 use Rattle.task.proofs.Trips as task-trip
+use Rattle.walk.specs.declared.due.Due.{Due}
 use Rattle.walk.specs.declared.due.Due.the-variants as due
 use Rattle.walk.specs.declared.due.Present.{Present}
 use Rattle.walk.specs.declared.due.Rest.{Rest}
@@ -204,13 +205,13 @@ module _ (rest x : List ℕ) where
   stop-radial b r start at len place says i =
       let f = fileOf (radial b r) in
       let w = momentWalk (b .task) (b .cut) (numberOf b) (r .header) (radialsIn (b .closed) + length (b .now)) start at (restOf (r .header) (reverse (r .moments)) len) in
-      stop-before (radial b r) f rest x w tt (refl, refl, place) refl refl i (ends-at (bytesOfAccepted (radial b r)) rest at i)
+      stop-before (radial b r) f rest x w tt (refl, refl, place, refl) refl refl i (ends-at (bytesOfAccepted (radial b r)) rest at i)
       (λ c h k. plain-here f w refl h ∙ settles-moment (take (at + 32) f) w (momentAt rest 0) (ap momentOf (front 32 f at rest i)) ∙ breaking (momentRules (momentAt rest 0) (dueMoment b r)) at _ c k) says
 
-  stop-moment : (b : Begun) (r : VolumeRadial) (m : Moment) (w : Walk) → w .due ≡ due.Data → sizeOf w ≡ m .length → Says (moment b r m) rest x → At (fileOf (moment b r m)) (w .at) rest → Halts (moment b r m) w []
-  unfolding isEnd
+  stop-moment : (b : Begun) (r : VolumeRadial) (m : Moment) (w : Walk) → w .due ≡ due.Data → w .rest .length ≡ m .length → Says (moment b r m) rest x → At (fileOf (moment b r m)) (w .at) rest → Halts (moment b r m) w []
+  unfolding isEnd sizeAt
   stop-moment b r m w e s says i =
-      stop-before (moment b r m) (fileOf (moment b r m)) rest x w tt e (ap isEnd e) s i (ends-at (bytesOfAccepted (moment b r m)) rest (w .at) i) (λ c h k. absurd (none-first c k)) says
+      stop-before (moment b r m) (fileOf (moment b r m)) rest x w tt (e, s) (ap isEnd e) (ap (λ (d : Due). sizeAt d (w .rest .length)) e ∙ s) i (ends-at (bytesOfAccepted (moment b r m)) rest (w .at) i) (λ c h k. absurd (none-first c k)) says
 
 -- ---- all of it
 
