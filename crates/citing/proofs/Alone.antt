@@ -46,13 +46,13 @@ use Rattle.citing.specs.Alone.{formula, byFormula, SameBytes, Stands, Al
 
 -- ---- the four ways in which a question can go
 
-data Ways (f : List ℕ) (n t i : ℕ) : Type 0 where
+pub data Ways (f : List ℕ) (n t i : ℕ) : Type 0 where
   no-radial : nth (stretches f) n ≡ found.Nowhere → Ways f n t i
   no-moment : (s : Stretch) → nth (stretches f) n ≡ found.There s → findIn (bytesOf f s) t (momentsOf (bytesOf f s)) ≡ moment.the-variants.Nowhere → Ways f n t i
   no-gate : (s : Stretch) (p : ℕ) → nth (stretches f) n ≡ found.There s → findIn (bytesOf f s) t (momentsOf (bytesOf f s)) ≡ moment.the-variants.At p → gatesAt (bytesOf f s) p ≤ i → Ways f n t i
   gate : (s : Stretch) (p : ℕ) → nth (stretches f) n ≡ found.There s → findIn (bytesOf f s) t (momentsOf (bytesOf f s)) ≡ moment.the-variants.At p → i < gatesAt (bytesOf f s) p → Ways f n t i
 
-ways : (f : List ℕ) (n t i : ℕ) → Ways f n t i
+pub ways : (f : List ℕ) (n t i : ℕ) → Ways f n t i
 ways f n t i = in-radial (nth (stretches f) n) refl
   where
     in-moment : (s : Stretch) (v : moment.Found) → nth (stretches f) n ≡ found.There s → findIn (bytesOf f s) t (momentsOf (bytesOf f s)) ≡ v → Ways f n t i
@@ -65,20 +65,20 @@ ways f n t i = in-radial (nth (stretches f) n) refl
 
 -- what is cited on each
 module _ (f : List ℕ) (n t i : ℕ) where
-  cites-count : nth (stretches f) n ≡ found.Nowhere → whyGate f n t i ≡ why.NoRadial (length (stretches f))
+  pub cites-count : nth (stretches f) n ≡ found.Nowhere → whyGate f n t i ≡ why.NoRadial (length (stretches f))
   unfolding inRadial
   cites-count r = rw r
 
-  cites-place : (s : Stretch) → nth (stretches f) n ≡ found.There s → findIn (bytesOf f s) t (momentsOf (bytesOf f s)) ≡ moment.the-variants.Nowhere → whyGate f n t i ≡ why.NoMoment (s .start)
+  pub cites-place : (s : Stretch) → nth (stretches f) n ≡ found.There s → findIn (bytesOf f s) t (momentsOf (bytesOf f s)) ≡ moment.the-variants.Nowhere → whyGate f n t i ≡ why.NoMoment (s .start)
   unfolding inRadial inMoment
   cites-place s r m = rw (r, m)
 
-  cites-gates : (s : Stretch) (p : ℕ) → nth (stretches f) n ≡ found.There s → findIn (bytesOf f s) t (momentsOf (bytesOf f s)) ≡ moment.the-variants.At p → gatesAt (bytesOf f s) p ≤ i
+  pub cites-gates : (s : Stretch) (p : ℕ) → nth (stretches f) n ≡ found.There s → findIn (bytesOf f s) t (momentsOf (bytesOf f s)) ≡ moment.the-variants.At p → gatesAt (bytesOf f s) p ≤ i
       → whyGate f n t i ≡ why.NoGate (gatesAt (bytesOf f s) p)
   unfolding inRadial inMoment
   cites-gates s p r m g = rw (r, m, le-ltb i (gatesAt (bytesOf f s) p) g)
 
-  cites-fields : (s : Stretch) (p : ℕ) → nth (stretches f) n ≡ found.There s → findIn (bytesOf f s) t (momentsOf (bytesOf f s)) ≡ moment.the-variants.At p → i < gatesAt (bytesOf f s) p
+  pub cites-fields : (s : Stretch) (p : ℕ) → nth (stretches f) n ≡ found.There s → findIn (bytesOf f s) t (momentsOf (bytesOf f s)) ≡ moment.the-variants.At p → i < gatesAt (bytesOf f s) p
       → whyGate f n t i ≡ why.Answered (citedAt f (s .start + p) i)
   unfolding inRadial inMoment
   cites-fields s p r m g = rw (r, m, lt-ltb i (gatesAt (bytesOf f s) p) g)
@@ -202,10 +202,10 @@ module _ (f : List ℕ) (n t i : ℕ) (s : Stretch) (p : ℕ) (r : nth (stretche
       ∙ le-own width f (header + 32 + width * i)
 
   -- all of it lies in the file
-  in-header : header + 32 ≤ length f
+  pub in-header : header + 32 ≤ length f
   in-header = let k = inside in let h = in-file f s (p + 32) (omega arith) k in omega arith
 
-  code-there : header + 32 + width * i + width ≤ length f
+  pub code-there : header + 32 + width * i + width ≤ length f
   code-there = let k = lies in let h = in-file f s (p + 32 + (width * i + width)) (omega arith) k in omega arith
 
   -- the formula over the cited bytes

@@ -51,7 +51,7 @@ complete-only (why.Broken c) e = absurd (let z : _≡_ {A = ℕ} 2 0 = cc in ome
 complete-only (why.Hopeless b) e = absurd (let z : _≡_ {A = ℕ} 2 0 = cc in omega arith)
 
 -- the last of some stretches
-last-is : (l : List Stretch) (s : Stretch) → nth (l ++ (s ∷ [])) (length (l ++ (s ∷ []))) ≡ There s
+pub last-is : (l : List Stretch) (s : Stretch) → nth (l ++ (s ∷ [])) (length (l ++ (s ∷ []))) ≡ There s
 unfolding nth
 last-is [] s = refl
 last-is (x ∷ []) s = refl

@@ -1,4 +1,5 @@
 pub mod Alone
 pub mod Grounds
+pub mod Grown
 pub mod Stops
 pub mod Whys
