@@ -6,5 +6,6 @@ pub mod Hopes
 pub mod One
 pub mod States
 pub mod Wedges
+pub mod Whys
 pub mod Two
 pub mod Three

@@ -35,6 +35,7 @@ use Rattle.demands.proofs.Floats.{floats}
 use Rattle.demands.proofs.Hopes.{hopes-hold}
 use Rattle.demands.proofs.States.{state-rule}
 use Rattle.demands.proofs.Decoded.{decoded-rows}
+use Rattle.demands.proofs.Whys.{whys}
 use Rattle.demands.proofs.Wedges.{wedges-hold}
 use Rattle.demands.specs.Two.{RefusedExactly, WholeRadials, Codes, Trips, Writing, IndexRight, DemandTwo}
 
@@ -108,6 +109,7 @@ demand-two =
       rows = row-shown;
       tallies = counted;
       decoded = decoded-rows;
+      whys = whys;
       wedges = wedges-hold;
       trips = trips;
       writing = writing;

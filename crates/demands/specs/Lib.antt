@@ -3,6 +3,7 @@ pub mod Hopes
 pub mod Cuts
 pub mod Wedges
 pub mod Decoded
+pub mod Whys
 pub mod One
 pub mod States
 pub mod Two

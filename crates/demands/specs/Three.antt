@@ -6,6 +6,7 @@ use lib.ListN.{length}
 use Rattle.reading.specs.Growth.{Grows}
 use Rattle.ask.specs.Growth.{AnswersGrow}
 use Rattle.decoded.specs.Growth.{ChecksGrow}
+use Rattle.citing.specs.Growth.{CitesGrow}
 
 pub record Growth (A C : List ℕ) : Type 0 where
   -- radials and verdicts: the whole radials of A begin those of B, with the same bytes; refused stays refused, complete
@@ -16,6 +17,8 @@ pub record Growth (A C : List ℕ) : Type 0 where
   pub answers : AnswersGrow A C
   -- what is said of a decoded row of a radial whole in A is said in B
   pub checks : ChecksGrow A C
+  -- what is cited of a refused A, and for a gate of a radial whole in A, is cited in B
+  pub cites : CitesGrow A C
 
 abbrev pub DemandThree : Type 0
 DemandThree = (A C : List ℕ) → 0 < length C → Growth A C

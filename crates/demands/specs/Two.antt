@@ -51,6 +51,7 @@ use Rattle.writer.specs.Block.{Block}
 use Rattle.writer.specs.Trips.{Fits, TakenWhen, Keeps, CopyOf, SameBlock, Run, SameBlocks, SamePlace, ReadBack}
 use Rattle.demands.specs.Cuts.{Cuts}
 use Rattle.demands.specs.Decoded.{DecodedRows}
+use Rattle.demands.specs.Whys.{Whys}
 use Rattle.demands.specs.Floats.{Floats}
 use Rattle.demands.specs.Hopes.{Hopes}
 use Rattle.demands.specs.States.{StateRule}
@@ -166,6 +167,8 @@ pub record DemandTwo : Type 0 where
   pub rows : Rows
   -- a row that somebody decoded, against the file's own (`Decoded`)
   pub decoded : DecodedRows
+  -- why a gate is what it is, and why a file is refused (`Whys`)
+  pub whys : Whys
   pub tallies : Tallies
   -- what lies in a wedge, and that a wedge and the wedge back add up to the full tally (`Wedges`)
   pub wedges : Wedges
