@@ -5,7 +5,7 @@ use native.Mathlib.Decide.{decLt}
 use native.Mathlib.Omega.{arith}
 use mathlib.Core.Bool.{Bool, true, false, cond}
 use mathlib.Core.List.{List}
-use mathlib.Core.Logic.{dite, _⊎_, inl, inr}
+use mathlib.Core.Logic.{dite, _⊎_, inl, inr, _↔_}
 use mathlib.Core.Path.{_≡_, refl, sym, ap, ap₂, subst, _∙_}
 use lib.Dec.{ltb}
 use lib.ListN.{length, take, drop, getD, length-take, length-drop}
@@ -41,7 +41,7 @@ use Rattle.citing.specs.declared.answers.GateCited.{GateCited}
 use Rattle.citing.specs.declared.answers.WhyGate.{WhyGate}
 use Rattle.citing.specs.declared.answers.WhyGate.the-variants as why
 use Rattle.citing.specs.Fields.{fieldAt, bytesIn, numberOf}
-use Rattle.citing.specs.Answers.{answerOf, citedAt, gatesAt, inMoment, inRadial, inStretch, widthAt, whyGate}
+use Rattle.citing.specs.Answers.{answerOf, citedAt, gatesAt, inMoment, inRadial, inStretch, toldWhyGate, widthAt, whyGate}
 use Rattle.citing.specs.Alone.{formula, byFormula, SameBytes, Stands, Alone, Because}
 
 -- ---- the four ways in which a question can go
@@ -306,15 +306,29 @@ told-gate f n t j s p w h =
     let b = bytesOf f s in
     (valuesOf (toldOf (codingOf (momentAt b p)) (getD (codesOf (momentAt b p .«bin_length») (dataAt b p)) j 0)), rw (w, lt-ltb j (gatesAt b p) h))
 
+-- two tellings of one refusal
+same-refusal : {A B : Type 0} (j k : ℕ) (x : Telling A) (y : Telling B) → x ≡ refused j 0 → y ≡ refused j 0 → (x ≡ refused k 0) ↔ (y ≡ refused k 0)
+same-refusal j k x y a b = (λ e. let z : j ≡ k = cc in rw b (ap (λ (n : ℕ). refused n 0) z), λ e. let z : j ≡ k = cc in rw a (ap (λ (n : ℕ). refused n 0) z))
+
 pub because : (f : List ℕ) (n t i : ℕ) → Because f n t i
 because f n t i =
     record {
+      refused-so = λ k. refusal k (ways f n t i);
       answered-by = alone f n t i;
       no-radial = λ k e. radial k e (ways f n t i);
       no-moment = λ p e. moment p e (ways f n t i);
       no-gate = λ k e. gates k e (ways f n t i);
     }
   where
+    refusal : (k : ℕ) → Ways f n t i → (gateAsked f n t i ≡ refused k 0) ↔ (toldWhyGate (whyGate f n t i) ≡ refused k 0)
+    refusal k (no-radial r) = same-refusal 30 k (gateAsked f n t i) (toldWhyGate (whyGate f n t i)) (told-30 f n t i r) (ap toldWhyGate (cites-count f n t i r))
+    refusal k (no-moment s r m) = same-refusal 31 k (gateAsked f n t i) (toldWhyGate (whyGate f n t i)) (told-31 f n t i s r m) (ap toldWhyGate (cites-place f n t i s r m))
+    refusal k (no-gate s p r m g) = same-refusal 32 k (gateAsked f n t i) (toldWhyGate (whyGate f n t i)) (told-32 f n t i s p (where-is f n t s p r m) g) (ap toldWhyGate (cites-gates f n t i s p r m g))
+    refusal k (gate s p r m g) =
+        let v = told-gate f n t i s p (where-is f n t s p r m) g .1 in
+        let c = ap toldWhyGate (cites-fields f n t i s p r m g) in
+        (λ e. absurd (let z : _≡_ {A = ℕ} 0 1 = cc in omega arith), λ e. absurd (let z : _≡_ {A = ℕ} 0 1 = cc in omega arith))
+
     radial : (k : ℕ) → whyGate f n t i ≡ why.NoRadial k → Ways f n t i → (gateAsked f n t i ≡ refused 30 0) × (k ≡ length (stretches f))
     radial k e (no-radial r) = let q = cites-count f n t i r in (told-30 f n t i r, cc)
     radial k e (no-moment s r m) = let q = cites-place f n t i s r m in absurd (let z : _≡_ {A = ℕ} 0 1 = cc in omega arith)

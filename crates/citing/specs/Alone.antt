@@ -2,6 +2,7 @@
 -- instead.
 use Prim.Native.Nat.{ℕ, _≤_, _<_}
 use mathlib.Core.List.{List}
+use mathlib.Core.Logic.{_↔_}
 use mathlib.Core.Path.{_≡_}
 use lib.ListN.{length}
 use Rattle.le.specs.Le.{le, Bytes}
@@ -14,7 +15,7 @@ use Rattle.ask.specs.Growth.{gateAsked}
 use Rattle.citing.specs.declared.Field.{Field}
 use Rattle.citing.specs.declared.answers.GateCited.{GateCited}
 use Rattle.citing.specs.declared.answers.WhyGate.the-variants.{Answered, NoRadial, NoMoment, NoGate}
-use Rattle.citing.specs.Answers.{answerOf, whyGate}
+use Rattle.citing.specs.Answers.{answerOf, toldWhyGate, whyGate}
 use Rattle.citing.specs.Fields.{bytesIn, InFile, numberOf}
 
 -- the formula, from five runs of bytes and nothing else: a type, a scale, an offset, a bin length, which says how many bytes a code has, and
@@ -57,9 +58,10 @@ pub record Alone (f : List ℕ) (n t i : ℕ) (c : GateCited) : Type 0 where
   -- and any question on any file for which the same bytes are cited is answered the same
   pub same : (g : List ℕ) (m u k : ℕ) (d : GateCited) → whyGate g m u k ≡ Answered d → SameBytes f c g d → gateAsked g m u k ≡ gateAsked f n t i
 
--- a gate that is answered, and the three refusals: how many whole radials there are; where the radial stands; how many gates there are, of
+-- a question is refused as the gate question is; of a gate that is answered and of the three refusals: how many whole radials there are; where the radial stands; how many gates there are, of
 -- which each is answered and no other
 pub record Because (f : List ℕ) (n t i : ℕ) : Type 0 where
+  pub refused-so : (k : ℕ) → (gateAsked f n t i ≡ refused k 0) ↔ (toldWhyGate (whyGate f n t i) ≡ refused k 0)
   pub answered-by : (c : GateCited) → whyGate f n t i ≡ Answered c → Alone f n t i c
   pub no-radial : (k : ℕ) → whyGate f n t i ≡ NoRadial k → (gateAsked f n t i ≡ refused 30 0) × (k ≡ length (stretches f))
   pub no-moment : (p : ℕ) → whyGate f n t i ≡ NoMoment p → (gateAsked f n t i ≡ refused 31 0) × (radialOfFile f n .number ≡ 0) × (p ≡ radialOfFile f n .place)

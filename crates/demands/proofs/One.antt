@@ -44,6 +44,7 @@ use Rattle.ask.proofs.Tellings.{told-gate-answer-one, told-tally-one, row-told-
 use Rattle.lent.specs.Lending.{lentOf, toldLent}
 use Rattle.decoded.specs.Decoded.{checkTold}
 use Rattle.decoded.specs.Exactly.{There}
+use Rattle.citing.proofs.Alone.{because}
 use Rattle.decoded.proofs.Exactly.{is-checked}
 use Rattle.decoded.proofs.Tellings.{told-check-one}
 use Rattle.index.specs.declared.Answer.{Answer}
@@ -93,6 +94,7 @@ questions f n t =
       check-30 = λ k h e. rw e;
       check-31 = λ k h e. rw e;
       checked = λ k h s p e. let w : There f n t = record { stretch = s; place = p; at = e } in (_, is-checked f n t w k h);
+      why = λ i. because f n t i .refused-so;
       as-asked = as-asked f n t;
     }
 

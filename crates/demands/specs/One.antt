@@ -42,6 +42,7 @@ use Rattle.ask.specs.Growth.{gateAsked}
 use Rattle.ask.specs.Places.{whereIs}
 use Rattle.ask.specs.Tallies.{tallyOf, cutAccepted, toldTally, tallyAnswer}
 use Rattle.lent.specs.Lending.{lentOf, toldLent}
+use Rattle.citing.specs.Answers.{toldWhyGate, whyGate}
 use Rattle.decoded.specs.declared.CheckAnswer.{CheckAnswer}
 use Rattle.decoded.specs.Decoded.{Checked, toldCheck, checkAsked}
 use Rattle.index.specs.declared.Answer.{Answer}
@@ -62,7 +63,7 @@ pub data Ending (f : List ℕ) : Type 0 where
 
 -- a question on a radial that is not whole is refused by 30, on a moment that it does not have by 31, on a gate that this
 -- does not have by 32; the place is 0, and the data of a refused moment are empty. What is answered is what was asked for. A decoded
--- row is refused by 30 and 31 as a gate is, and by nothing else, whatever the lists
+-- row is refused by 30 and 31 as a gate is, and by nothing else, whatever the lists. Why a gate is what it is, is refused as the gate is
 pub record Questions (f : List ℕ) (n t : ℕ) : Type 0 where
   pub radial : nth (stretches f) n ≡ Nowhere → (radialOfFile f n .number ≡ 30) × (radialOfFile f n .place ≡ 0)
   pub no-radial : nth (stretches f) n ≡ Nowhere → whereIs f n t ≡ NoRadial
@@ -75,6 +76,7 @@ pub record Questions (f : List ℕ) (n t : ℕ) : Type 0 where
   pub check-30 : (k : List ℕ) (h : List ℤ) → whereIs f n t ≡ NoRadial → checkAsked f n t k h ≡ refused 30 0
   pub check-31 : (k : List ℕ) (h : List ℤ) → whereIs f n t ≡ NoMoment → checkAsked f n t k h ≡ refused 31 0
   pub checked : (k : List ℕ) (h : List ℤ) (s : Stretch) (p : ℕ) → whereIs f n t ≡ At s p → (x : Checked) × (checkAsked f n t k h ≡ answered x)
+  pub why : (i k : ℕ) → (gateAsked f n t i ≡ refused k 0) ↔ (toldWhyGate (whyGate f n t i) ≡ refused k 0)
   pub as-asked : AsAsked f n t
 
 -- a row is refused by 30 and 31 as a gate is, and then by 33 where either buffer is too short, all with place 0
