@@ -25,6 +25,7 @@ not-suc a b = dite (decLt b (a + 1)) (λ h. rw (lt-leb (a + 1) b h, le-leb b a (
 '''
 SAME_KINDS, ENOUGH_KINDS = 'eqb (length k) (length codes)', 'leb (length codes) (length k)'
 SAME_HUNDREDTHS, ENOUGH_HUNDREDTHS = 'eqb (length h) (length codes)', 'leb (length codes) (length h)'
+ONE_BYTE, TWO_BYTES = 'cond (bit sizes t) true (is 1 (short bin))', 'cond (bit sizes t) (is 2 (short bin)) true'
 CHECKED, COMPARE = (f'crates/decoded/proofs/{path}.antt' for path in ('Checked', 'compare/Proof'))
 
 SLIPS = {
@@ -65,13 +66,14 @@ SLIPS = {
     ],
     # types 2 and 5 taken for each other in how many cuts a task may have (number 8; document 02, #103)
     'two_in_layers': [
-        ('crates/rules/specs/States.antt', 'cond (is 2 (int scan)) 1 256', 'cond (is 5 (int scan)) 1 256'),
-        ('crates/rules/src/states.rt', '2 => match x {', '5 => match x {'),
+        ('crates/rules/specs/States.antt', 'cond (is 2 (int scan)) 1', 'cond (is 5 (int scan)) 1'),
+        ('crates/rules/src/states.rt', '2 => 2,', '5 => 2,'),
         ('crates/rules/proofs/Numbers.antt', 'scan ≡ 2 → mostCuts', 'scan ≡ 5 → mostCuts'),
         ('crates/rules/proofs/Numbers.antt', '(scan ≡ 2 → ⊥) → mostCuts', '(scan ≡ 5 → ⊥) → mostCuts'),
         ('crates/rules/proofs/Numbers.antt', 'exactly w32 2 scan (lit< tt), eq-eqb scan 2 e', 'exactly w32 5 scan (lit< tt), eq-eqb scan 5 e'),
         ('crates/rules/proofs/Numbers.antt', 'exactly w32 2 scan (lit< tt), ne-eqb scan 2 h', 'exactly w32 5 scan (lit< tt), ne-eqb scan 5 h'),
         ('crates/rules/proofs/Numbers.antt', 'small-if (is 2 (int scan))', 'small-if (is 5 (int scan))'),
+        ('crates/rules/proofs/Numbers.antt', 'go (is 2 (int scan))', 'go (is 5 (int scan))'),
     ],
     # document 01's own rule for type 5, before document 02, #103: a cut before the last closed by 2
     'layer_closed_by_two': [
@@ -103,16 +105,21 @@ SLIPS = {
     ],
     # 255 cuts at the most (number 8; document 02, #106)
     'cuts_to_255': [
-        ('crates/rules/specs/States.antt', 'cond (is 2 (int scan)) 1 256', 'cond (is 2 (int scan)) 1 255'),
-        ('crates/rules/src/states.rt', '1..=256 => true', '1..=255 => true'),
-        ('crates/rules/proofs/states/cut_number_ok/Proof.antt', 'w32 1 256 _', 'w32 1 255 _'),
+        ('crates/rules/specs/States.antt', 'mostOfAny = 256', 'mostOfAny = 255'),
+        ('crates/rules/src/states.rt', '2..=256 =>', '2..=255 =>'),
+        ('crates/rules/proofs/states/cut_number_breaks/Proof.antt', 'w32 1 256', 'w32 1 255'),
         ('crates/rules/proofs/Numbers.antt', 'mostCuts scan ≡ 256', 'mostCuts scan ≡ 255'),
         ('crates/rules/proofs/Numbers.antt', '1 256 257', '1 255 257'),
+        ('crates/rules/proofs/Numbers.antt', 'cond b 1 256', 'cond b 1 255'),
+        ('crates/rules/proofs/Numbers.antt', '(pos 256) (int n)', '(pos 255) (int n)'),
+        ('crates/rules/proofs/Allowed.antt', '(pos 256) (int n)', '(pos 255) (int n)'),
+        ('crates/rules/proofs/Allowed.antt', 'inside w32 1 256 n', 'inside w32 1 255 n'),
     ],
     # the sequence up to 65,535 (number 12; document 02, #106)
     'sequence_to_65535': [
         ('crates/rules/specs/Ranges.antt', 'mostSequence = 65536', 'mostSequence = 65535'),
         ('crates/radial/src/lib.rt', '1..=65536 =>', '1..=65535 =>'),
+        ('crates/radial/src/lib.rt', '65537..=', '65536..='),
     ],
     # an index of 51 cuts in the old form (document 02, #106)
     'old_form_to_51': [
@@ -230,6 +237,35 @@ SLIPS = {
     'thirty_one_for_thirty': [
         ('crates/decoded/specs/Decoded.antt', 'checkTold f NoRadial k h = refused 30 0', 'checkTold f NoRadial k h = refused 31 0'),
         ('crates/decoded/src/lib.rt', 'Where::NoRadial => CheckAnswer::Refused(30)', 'Where::NoRadial => CheckAnswer::Refused(31)'),
+    ],
+    # the two clauses of number 23 told for each other (document 02, #104)
+    'clauses_of_23': [
+        ('crates/rules/specs/Masks.antt', f'{ONE_BYTE} ∷ {TWO_BYTES} ∷ []', f'{TWO_BYTES} ∷ {ONE_BYTE} ∷ []'),
+        ('crates/rules/src/masks.rt', 'if x == 2 { 0 } else { 2 }', 'if x == 2 { 0 } else { 1 }'),
+        ('crates/rules/src/masks.rt', 'if x == 1 { 0 } else { 1 }', 'if x == 1 { 0 } else { 2 }'),
+        ('crates/rules/proofs/Numbers.antt', '(cond b true (is 1 (short bin)) && cond b (is 2 (short bin)) true)',
+         '(cond b (is 2 (short bin)) true && cond b true (is 1 (short bin)))'),
+        ('crates/rules/proofs/Numbers.antt', '    go true = refl\n    go false = sym (and-true (is 1 (short bin)))',
+         '    go true = sym (and-true (is 2 (short bin)))\n    go false = refl'),
+    ],
+    # bin length cited with four bytes (document 02, #104)
+    'bin_length_of_four': [
+        ('crates/moment/specs/Moment.antt', 'rule 12 2 23', 'rule 12 4 23'),
+        ('crates/moment/src/lib.rt', 'Self::BIN_LENGTH as u8,\n            2,', 'Self::BIN_LENGTH as u8,\n            4,'),
+        ('crates/citing/proofs/Whys.antt', '(inl refl, (inr refl, tt))', '(inr refl, (inr refl, tt))'),
+    ],
+    # the place of the scale cited for the offset (document 02, #104)
+    'scale_for_offset': [
+        ('crates/citing/specs/Answers.antt', 'offset = fieldAt f (m + 8) 4', 'offset = fieldAt f (m + 4) 4'),
+        ('crates/citing/src/answers.rt', 'm + Moment::OFFSET', 'm + Moment::SCALE'),
+    ],
+    # trailing bytes cited at the trailing bytes (document 02, #104)
+    'trailing_bytes_cited': [
+        ('crates/citing/specs/Refusals.antt', 'block due.Radial (w .count .whole) 0 (w .present .start)', 'block due.Radial (w .count .whole) 0 (w .at)'),
+        ('crates/citing/src/refusals.rt', 'place: w.present.start,', 'place: w.at,'),
+        ('crates/citing/src/refusals.rt', 'four(file, w.present.start)', 'four(file, at)'),
+        ('crates/citing/proofs/Whys.antt', 'f w .place ≡ w .present .start', 'f w .place ≡ w .at'),
+        ('crates/citing/proofs/refusals/file/Proof.antt', 'let q : w .present .start ≡', 'let q : w .at ≡'),
     ],
     # the types seen not cleared at a new radial (number 20)
     'seen_not_cleared': [
