@@ -14,7 +14,7 @@ use mir.Syntax.{w16, w32}
 use Rattle.le.specs.Le.{part, int}
 use Rattle.le.proofs.Laws.{part-take, part-drop}
 use Rattle.le.proofs.Tests.{both}
-use Rattle.rules.specs.Masks.{bit, binLengthClauses}
+use Rattle.rules.specs.Masks.{bit}
 use Rattle.rules.specs.Ranges.{among, within}
 use Rattle.rules.proofs.Numbers.{by-bits, exactly, bin-by-size}
 use Rattle.rules.specs.declared.check.Check.the-variants.{Fine}

@@ -3,13 +3,11 @@ use Prim.Native.Nat.{ℕ, _+_, _*_, _-_, _%_, _^_, _≤_, _<_}
 use native.Mathlib.Nat.{mod-eq-of-lt, mul-comm}
 use native.Mathlib.Decide.{decLt}
 use native.Mathlib.Omega.{arith}
-use mathlib.Core.Bool.{Bool, true, false, cond}
 use mathlib.Core.List.{List}
 use mathlib.Core.Logic.{dite, _⊎_, inl, inr, _↔_}
 use mathlib.Core.Path.{_≡_, refl, sym, ap, ap₂, subst, _∙_}
-use lib.Dec.{ltb}
 use lib.ListN.{length, take, drop, getD, length-take, length-drop}
-use borrow.Author.Tests.{lt-ltb, le-ltb, ltb-true, ltb-false}
+use borrow.Author.Tests.{lt-ltb, le-ltb}
 use Rattle.le.specs.Le.{le, part, Bytes}
 use Rattle.le.proofs.Laws.{le-lt, le-own, le-part, length-part, part-here, part-take, part-drop}
 use Rattle.gates.specs.declared.Coding.{Coding}
@@ -27,7 +25,6 @@ use Rattle.reading.specs.declared.Found.the-variants as found
 use Rattle.reading.specs.declared.Stretch.{Stretch}
 use Rattle.reading.specs.Reading.{stretches, nth, bytesOf}
 use Rattle.reading.proofs.Radials.{in-file}
-use Rattle.ask.specs.declared.places.Where.{Where}
 use Rattle.ask.specs.declared.places.Where.the-variants.{At, NoRadial, NoMoment}
 use Rattle.ask.specs.Answers.{codingOf, gateIn, gateTold, radialTold, radialOfFile}
 use Rattle.ask.specs.Growth.{gateAsked}
@@ -36,11 +33,9 @@ use Rattle.ask.specs.Places as places
 use Rattle.ask.specs.Sound.{Sound}
 use Rattle.ask.proofs.Growing.{nth-placed}
 use Rattle.ask.proofs.Sounding.{own-long, own-moment, own-part, sound}
-use Rattle.citing.specs.declared.Field.{Field}
 use Rattle.citing.specs.declared.answers.GateCited.{GateCited}
-use Rattle.citing.specs.declared.answers.WhyGate.{WhyGate}
 use Rattle.citing.specs.declared.answers.WhyGate.the-variants as why
-use Rattle.citing.specs.Fields.{fieldAt, bytesIn, numberOf}
+use Rattle.citing.specs.Fields.{fieldAt, numberOf}
 use Rattle.citing.specs.Answers.{answerOf, citedAt, gatesAt, inMoment, inRadial, inStretch, toldWhyGate, widthAt, whyGate}
 use Rattle.citing.specs.Alone.{formula, byFormula, SameBytes, Stands, Alone, Because}
 

@@ -27,7 +27,7 @@ use Rattle.volume.specs.Accepted as says
 use Rattle.volume.specs.Meaning.{acceptedStretches, volumeStretches}
 use Rattle.volume.proofs.Stops.{Behind, none-first}
 use Rattle.hope.specs.Hope.{Begins}
-use Rattle.hope.specs.Meaning.{Hopeful, HopeSays, Parts}
+use Rattle.hope.specs.Meaning.{Hopeful, HopeSays}
 use Rattle.hope.specs.Meaning as hope
 use Rattle.hope.proofs.Meaning.{means}
 use Rattle.citing.specs.declared.refusals.Why.{Why}

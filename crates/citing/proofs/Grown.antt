@@ -1,12 +1,12 @@
 -- Growth of what is cited: the statement of specs/Growth, for every A and C. Assumes nothing.
 use Prim.Native.Nat.{ℕ, _+_, _-_, _*_, _≤_, _<_}
 use native.Mathlib.Omega.{arith}
-use mathlib.Core.Bool.{Bool, true, false}
+use mathlib.Core.Bool.{true, false}
 use mathlib.Core.List.{List, [], _∷_, _++_}
 use mathlib.Core.Path.{_≡_, refl, sym, ap, ap₂, subst, _∙_}
 use lib.Dec.{lit<}
 use lib.ListN.{length, length-append}
-use Rattle.le.specs.Le.{le, part}
+use Rattle.le.specs.Le.{le}
 use Rattle.le.proofs.Laws.{le-own, part-in}
 use Rattle.rules.specs.declared.check.Check.{Check}
 use Rattle.rules.specs.declared.check.Check.the-variants.{Fine, Broken}
@@ -44,12 +44,11 @@ use Rattle.ask.proofs.Growing.{nth-kept, nth-of, nth-placed}
 use Rattle.citing.specs.declared.Field.{Field}
 use Rattle.citing.specs.declared.answers.WhyGate.the-variants as gate
 use Rattle.citing.specs.declared.refusals.Block.{Block}
-use Rattle.citing.specs.declared.refusals.Why.{Why}
 use Rattle.citing.specs.declared.refusals.Why.the-variants as why
 use Rattle.citing.specs.Answers.{citedAt, gatesAt, widthAt, whyGate}
 use Rattle.citing.specs.Fields.{fieldAt}
 use Rattle.citing.specs.Growth.{CitesGrow}
-use Rattle.citing.specs.Refusals.{blockDue, byRules, citedOf, refusalOf, trailingClause, whyAt, whyOf}
+use Rattle.citing.specs.Refusals.{blockDue, byRules, refusalOf, trailingClause, whyAt, whyOf}
 use Rattle.citing.proofs.Alone.{Ways, no-radial, no-moment, no-gate, gate, ways, cites-place, cites-gates, cites-fields, in-header, code-there}
 use Rattle.citing.proofs.Grounds.{last-is}
 use Rattle.citing.proofs.Stops.{cites-told}

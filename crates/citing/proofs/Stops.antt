@@ -1,19 +1,19 @@
 -- What is cited is what is told; and the walk at which reading stops, its block and its rules, by the structure. Assumes nothing.
-use Prim.Native.Nat.{ℕ, zero, suc, _+_, _-_, _≤_, _<_}
+use Prim.Native.Nat.{ℕ, suc, _+_, _-_, _≤_, _<_}
 use native.Mathlib.Omega.{arith}
 use mathlib.Core.Bool.{Bool, true, false}
-use mathlib.Core.List.{List, [], _∷_, _++_, append-assoc, append-nil, reverse}
+use mathlib.Core.List.{List, [], _∷_, _++_, append-assoc, append-nil}
 use mathlib.Core.Logic.{_⊎_, inl, inr}
-use mathlib.Core.Path.{_≡_, refl, sym, ap, ap₂, subst, subst⁻¹, _∙_}
-use lib.ListN.{length, take, length-append, length-reverse}
+use mathlib.Core.Path.{_≡_, refl, sym, ap, ap₂, subst, _∙_}
+use lib.ListN.{length, take, length-reverse}
 use lib.Seq.{take-at}
 use Rattle.le.specs.Le.{part, run, Bytes}
 use Rattle.le.proofs.Laws.{part-all, part-in, part-past}
 use Rattle.rules.specs.declared.check.Check.{Check}
 use Rattle.rules.specs.declared.check.Check.the-variants.{Fine, Broken}
 use Rattle.rules.specs.declared.check.Clause.{Clause}
-use Rattle.rules.specs.Check.{Rule, Hold, First, verdict}
-use Rattle.rules.proofs.Judged.{decided-first, all-hold, first-decides, fine-if}
+use Rattle.rules.specs.Check.{verdict}
+use Rattle.rules.proofs.Judged.{decided-first, all-hold}
 use Rattle.cut.specs.Cut.{cutOf, cutAt, cutRules}
 use Rattle.generic.specs.Generic.{genericOf, genericAt, genericRules}
 use Rattle.moment.specs.declared.MomentDue.{MomentDue}
@@ -28,30 +28,25 @@ use Rattle.walk.specs.declared.due.Due.{Due}
 use Rattle.walk.specs.declared.due.Due.the-variants as due
 use Rattle.walk.specs.declared.due.Walk.{Walk}
 use Rattle.walk.specs.Due.{atStart, isEnd, sizeAt, sizeOf}
-use Rattle.reading.specs.declared.Found.the-variants.{There}
-use Rattle.reading.specs.declared.Stretch.{Stretch}
 use Rattle.reading.specs.declared.step.Step.{Step}
 use Rattle.reading.specs.declared.step.Step.the-variants as step
 use Rattle.reading.specs.Step.{hopeAt, hoping, settle, stepOf}
 use Rattle.reading.specs.Exactly.{rulesOf, rule, trailing, hopeless}
-use Rattle.reading.specs.Reading.{fuel, plainStop, stop, told, stretches, nth}
+use Rattle.reading.specs.Reading.{fuel, plainStop, stop, told}
 use Rattle.reading.proofs.Run.{View, view, is-here, stays, run-stops, enough, last-within}
 use Rattle.reading.proofs.Run as run
-use Rattle.reading.proofs.Counts.{counted-all}
 use Rattle.reading.proofs.Closing.{closed}
 use Rattle.reading.proofs.Exactly.{settled, told-exactly}
 use Rattle.volume.specs.Volume.{VolumeRadial, Volume, bytesOfMoment, bytesOfVolume}
-use Rattle.volume.specs.Accepted.{Begun, Accepted, nothing, generic, site, task, radials, radial, moment, volume, volumeOf, bytesOfAccepted, radialsIn, RadialBegun, AcceptedOk, dueSize, dueRules, Says, complete, follow, missing, broken}
+use Rattle.volume.specs.Accepted.{Begun, Accepted, nothing, generic, site, task, radials, radial, moment, volume, volumeOf, bytesOfAccepted, radialsIn, RadialBegun, AcceptedOk, dueSize, dueRules, Says, complete, missing}
 use Rattle.volume.proofs.Stops.{Behind}
 use Rattle.volume.proofs.Tells.{stands-behind}
-use Rattle.hope.specs.Meaning.{Parts, HopeSays}
-use Rattle.hope.proofs.Meaning.{some-due, means}
+use Rattle.hope.specs.Meaning.{Parts}
+use Rattle.hope.proofs.Meaning.{some-due}
 use Rattle.hope.proofs.Told.{read-alike}
-use Rattle.citing.specs.declared.refusals.Why.{Why}
-use Rattle.citing.specs.declared.refusals.Why.the-variants as why
-use Rattle.citing.specs.Refusals.{block, blockDue, byRules, citedOf, refusalOf, trailingClause, whyAt, whyOf}
+use Rattle.citing.specs.Refusals.{block, blockDue, byRules, refusalOf, whyOf}
 use Rattle.citing.specs.Grounds.{blockBehind, CitesTold}
-use Rattle.citing.proofs.Whys.{why-over, why-done, why-short, why-here, over-is, due-place}
+use Rattle.citing.proofs.Whys.{why-over, why-done, why-short, why-here, due-place}
 
 stop-stays : (f : List ℕ) → stays (stepOf f (stop f))
 stop-stays f = run-stops true (λ v. v) (λ v n r. r) f (λ w v. stays (stepOf f v)) (λ v h. h) (λ v m x e h. h) (fuel f) atStart (enough f atStart)

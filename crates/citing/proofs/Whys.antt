@@ -1,13 +1,12 @@
 -- What is cited, by the four ways in which a step can go, as the tests decide it. Assumes nothing.
 use Prim.Native.Nat.{ℕ, zero, suc, _+_, _-_, _<_, _≤_}
 use native.Mathlib.Omega.{arith}
-use mathlib.Core.Path.{_≡_, refl, sym, ap, subst, _∙_}
-use mathlib.Core.Bool.{Bool, true, false}
+use mathlib.Core.Path.{_≡_, refl, ap}
+use mathlib.Core.Bool.{true, false}
 use mathlib.Core.List.{List, [], _∷_}
 use mathlib.Core.Logic.{_⊎_, inl, inr}
 use lib.ListN.{length}
 use borrow.Author.Tests.{le-leb, lt-leb, lt-ltb, le-ltb}
-use Rattle.rules.specs.declared.check.Check.{Check}
 use Rattle.rules.specs.declared.check.Check.the-variants.{Broken}
 use Rattle.rules.specs.declared.check.Clause.{Clause}
 use Rattle.rules.specs.Check.{Rule, First, here, behind, verdict}
@@ -27,7 +26,6 @@ use Rattle.reading.proofs.Counts.{counted-all}
 use Rattle.reading.proofs.Radials.{all-whole}
 use Rattle.reading.proofs.Sequences.{nth-sequence}
 use Rattle.ask.proofs.Growing.{nth-of}
-use Rattle.citing.specs.declared.refusals.Why.{Why}
 use Rattle.citing.specs.declared.refusals.Why.the-variants as why
 use Rattle.citing.specs.Refusals.{blockDue, trailingClause, citedOf, byRules, whyAt}
 

@@ -1,7 +1,7 @@
 -- What is cited of a file, by the structure (document 02, #104): of its accepted blocks each keeps its rules where it stands; the block
 -- behind them is cited, by its place among them, with its first broken clause, before which every field of it keeps its rule.
 use Prim.Native.Nat.{ℕ, suc, _+_, _-_, _<_, _≤_}
-use mathlib.Core.List.{List, [], _∷_, _++_}
+use mathlib.Core.List.{List, [], _++_}
 use mathlib.Core.Path.{_≡_}
 use lib.ListN.{length, take}
 use Rattle.rules.specs.declared.check.Clause.{Clause}

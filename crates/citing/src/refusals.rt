@@ -6,7 +6,7 @@ ghost use Rattle.rules.specs.Check.{verdict};
 ghost use Rattle.reading.specs.Exactly.{rulesOf};
 ghost use Rattle.reading.specs.Reading.{stop as stopOf};
 ghost use Rattle.citing.specs.Fields.{fieldAt};
-ghost use Rattle.citing.specs.Refusals.{blockDue, citedOf, whyOf};
+ghost use Rattle.citing.specs.Refusals.{blockDue, whyOf};
 use crate::Field;
 use crate::four;
 use crate::two;

@@ -17,7 +17,7 @@ use borrow.Author.Tests.{le-leb, lt-leb, leb-true, eqb-true, eq-eqb, not-true}
 use Rattle.le.specs.Le.{int, short}
 use Rattle.le.proofs.Tests.{both, fails}
 use Rattle.rules.specs.Ranges.{among, within}
-use Rattle.rules.specs.Masks.{bit, withBit, typeOk, typeClauses, binLengthOk, binLengthClauses}
+use Rattle.rules.specs.Masks.{bit, withBit, typeOk, typeClauses, binLengthOk}
 use Rattle.rules.specs.Tiling.{tiles, lengthOk, lengthClauses}
 use Rattle.rules.proofs.Numbers.{by-bits, in-range, exactly, bin-by-size}
 use Rattle.coming.specs.Moments.{Comes, fills, momentsCan, singles, doubles}

@@ -15,7 +15,7 @@ use Rattle.rules.proofs.Judged.{held-first}
 use Rattle.le.specs.Le.{Bytes, int}
 use Rattle.le.proofs.Here.{split, drop-bytes}
 use Rattle.le.proofs.Tests.{both}
-use Rattle.rules.specs.Check.{Rule, Hold, First, here, behind}
+use Rattle.rules.specs.Check.{Hold}
 use Rattle.rules.specs.Ranges.{among}
 use Rattle.rules.specs.Tiling.{lengthClauses}
 use Rattle.rules.proofs.Numbers.{least}

@@ -11,7 +11,6 @@ use Rattle.moments.specs.Moments.{momentsFrom, momentsAt, aheadOf}
 use Rattle.moments.proofs.Laws.{there, end}
 use Rattle.reading.specs.declared.Onward.{Onward}
 use Rattle.reading.specs.declared.Onward.the-variants.{Whole, Stopped}
-use Rattle.reading.specs.declared.Stretch.{Stretch}
 use Rattle.reading.specs.Reading.{trace, fuel, advanceOf, bytesOf}
 use Rattle.reading.proofs.Loops.{further, no-more}
 use Rattle.listing.specs.declared.Cursor.{Cursor}

@@ -1,5 +1,6 @@
 // What the programs share: words, numbers, counts and listings on standard output, and the start and the rest of a slice.
 ghost use mathlib.Core.Path.{_≡_};
+ghost use lib.IntN.{natAbs};
 ghost use lib.ListN.{take, drop};
 use gates::Counts;
 use libc::STDOUT_FILENO;
@@ -45,6 +46,21 @@ pub fn bare(n: u64) {
 pub fn number(n: u64) {
     word(b" ");
     bare(n);
+}
+
+// The size of a signed number. A negative one's complement is one short of its size, and fits where the size may not.
+pub fn size(z: i32) -> u64
+    ensures { λ r. ⌜ r ≡ natAbs z ⌝ }
+{
+    if z < 0 { !z as u64 + 1 } else { z as u64 }
+}
+
+// With nothing before it, as `bare`.
+pub fn bare_signed(z: i32) {
+    if z < 0 {
+        word(b"-");
+    }
+    bare(size(z));
 }
 
 pub fn bare_refused(n: u32) {

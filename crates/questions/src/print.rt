@@ -1,5 +1,7 @@
 // Signs, parts of an answer, signed numbers and checksums.
 use printing::bare;
+use printing::bare_signed;
+use printing::size;
 use printing::word;
 
 pub(crate) fn space() {
@@ -21,18 +23,6 @@ pub(crate) fn refused(n: u32) {
 
 pub(crate) fn wide(x: u8) -> u64 {
     x as u64
-}
-
-// The size of a signed number. A negative one's complement is one short of its size, and fits where the size may not.
-fn size(z: i32) -> u64 {
-    if z < 0 { !z as u64 + 1 } else { z as u64 }
-}
-
-fn bare_signed(z: i32) {
-    if z < 0 {
-        word(b"-");
-    }
-    bare(size(z));
 }
 
 pub(crate) fn signed(z: i32) {

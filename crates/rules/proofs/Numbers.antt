@@ -14,7 +14,7 @@ use mir.Val.{hbits, toZ}
 use mir.ValLaws.{toZ-pos}
 use borrow.Author.Tests.{le-leb, lt-leb, le-ltb, lt-ltb, eq-eqb, ne-eqb, leb-true, eqb-true}
 use Rattle.le.specs.Le.{int, short}
-use Rattle.le.proofs.Tests.{both, eqb-same}
+use Rattle.le.proofs.Tests.{both}
 use Rattle.rules.specs.Check.{breaks}
 use Rattle.rules.specs.Masks.{bit, binLengthClauses, binLengthOk}
 use Rattle.rules.specs.States.{rhi, mostCuts, cutNumberOk, cutNumberClauses, opening, closing}

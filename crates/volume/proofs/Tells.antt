@@ -30,7 +30,7 @@ use Rattle.walk.specs.declared.due.Due.the-variants as due
 use Rattle.walk.specs.declared.due.Present.{Present}
 use Rattle.walk.specs.declared.due.Rest.{Rest}
 use Rattle.walk.specs.declared.due.Walk.{Walk}
-use Rattle.walk.specs.Due.{cutPlace, atStart, isEnd, endsRadial, sizeAt, sizeOf, dueIf}
+use Rattle.walk.specs.Due.{cutPlace, atStart, isEnd, endsRadial, sizeAt, dueIf}
 use Rattle.walk.specs.After.{afterGeneric, afterSite}
 use Rattle.reading.specs.declared.Stretch.{Stretch}
 use Rattle.reading.specs.Reading.{plainStop, stretchIf}

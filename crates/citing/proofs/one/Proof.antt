@@ -1,10 +1,9 @@
-use mathlib.Core.Path.{sym, ap}
+use mathlib.Core.Path.{ap}
 use native.Mathlib.Omega.{arith}
 use borrow.Author.Needs.{needs}
 use Prim.Native.Nat.{ℕ}
 use lib.ListN.{List·getD-eq-default}
 use Rattle.le.specs.Le.{le}
-use Rattle.citing.specs.declared.Field.{Field}
 use Rattle.citing.proofs.one.Statement.{statement}
 use Rattle.citing.proofs.one.Tie as tie
 

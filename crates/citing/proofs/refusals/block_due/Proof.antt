@@ -1,4 +1,3 @@
-use native.Mathlib.Omega.{arith}
 use borrow.Author.Needs.{needs}
 use Rattle.citing.specs.Refusals.{blockDue}
 use Rattle.citing.proofs.refusals.block_due.Statement.{statement}

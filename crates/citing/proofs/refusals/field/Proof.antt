@@ -1,8 +1,7 @@
-use native.Mathlib.Omega.{arith}
 use borrow.Author.Needs.{needs}
 use mathlib.Core.Logic.{⊎-elim}
 use mathlib.Core.Path.{sym, ap, _∙_}
-use Prim.Native.Nat.{ℕ, _+_}
+use Prim.Native.Nat.{_+_}
 use Rattle.citing.specs.Fields.{fieldAt}
 use Rattle.citing.proofs.refusals.field.Statement.{statement}
 use Rattle.citing.proofs.refusals.field.Tie as tie

@@ -1,8 +1,9 @@
--- A negative number's complement is below 2 ^ 31, and a number that is not negative is its own size. Assumes nothing.
-use mathlib.Core.Path.{_≡_}
+-- A negative number's complement is below 2 ^ 31 and one short of its size, and a number that is not negative is its own size. Assumes
+-- nothing.
+use mathlib.Core.Path.{_≡_, ap}
 use lib.Dec.{T}
 use mathlib.Core.Bool.{true, false}
-use Prim.Native.Nat.{ℕ, _-_, _^_, _<_}
+use Prim.Native.Nat.{ℕ, _+_, _-_, _^_, _<_}
 use native.Mathlib.Omega.{arith}
 use borrow.Author.Needs.{needs}
 use borrow.Author.Tests.{ltb-true}
@@ -11,8 +12,8 @@ use lib.Signed.{ltZ, nonNeg}
 use mir.Syntax.{w32, w64}
 use mir.Val.{Fits, SFits, toZ, ofZ}
 use mir.Facts.{toZ-pos, toZ-ofZ}
-use Rattle.questions.proofs.print.size.Statement.{statement}
-use Rattle.questions.proofs.print.size.Tie as tie
+use Rattle.printing.proofs.size.Statement.{statement}
+use Rattle.printing.proofs.size.Tie as tie
 
 complement-small : (z : ℤ) → SFits w32 z → ltZ (toZ w32 (ofZ w32 z)) (pos 0) ≡ true → 4294967295 - ofZ w32 z < 2 ^ 31
 complement-small (pos n) f t = omega (arith, ltb-true n 0 (rw (toZ-pos w32 (f .sfits)) at t))
@@ -38,5 +39,16 @@ add-result c =
 cast-result-2 : tie.Need-cast-result-2
 cast-result-2 c = not-negative (c .before .args .z) (c .before .fits .z) (c .if1 .left)
 
+-- and that complement is one short of the size
+complement-size : (z : ℤ) → SFits w32 z → ltZ (toZ w32 (ofZ w32 z)) (pos 0) ≡ true → natAbs (toZ w32 (4294967295 - ofZ w32 z)) + 1 ≡ natAbs z
+complement-size (pos n) f t = absurd (omega (arith, ltb-true n 0 (rw (toZ-pos w32 (f .sfits)) at t)))
+complement-size (negsuc k) f t = let h = complement-small (negsuc k) f t in rw (toZ-pos w32 h) (omega (arith, f .sfits))
+
+returns : tie.Need-returns
+returns c = complement-size (c .before .args .z) (c .before .fits .z) (c .if1 .taken)
+
+returns-2 : tie.Need-returns-2
+returns-2 c = ap natAbs (toZ-ofZ (c .before .fits .z))
+
 pub size-spec : {M : Type 1} → statement M
-size-spec = tie.close (tie.spec cast-result add-result cast-result-2 (λ c. search needs) (λ c. search needs))
+size-spec = tie.close (tie.spec cast-result add-result cast-result-2 returns returns-2)
