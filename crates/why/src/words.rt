@@ -223,7 +223,7 @@ fn before_radials(c: Clause, f: Field) {
     }
 }
 
-fn in_radials(c: Clause, f: Field) {
+fn in_radial(c: Clause, f: Field) {
     let number = c.number;
     match number {
         10 => row(f, b"state", b"this state is not allowed here"),
@@ -236,11 +236,6 @@ fn in_radials(c: Clause, f: Field) {
         17 => time(f, c.place),
         18 => row(f, b"length of data", b"it is not 1..100,000"),
         19 => moment_number(f, c.which),
-        20 => data_type(f, c.which),
-        21 => row(f, b"scale", b"it is not 1..32,768"),
-        22 => row(f, b"offset", b"it is not 0..32,768"),
-        23 => bin_length(f, c.which),
-        24 => length(f, c.which),
         _ => row(
             f,
             b"state",
@@ -249,12 +244,24 @@ fn in_radials(c: Clause, f: Field) {
     }
 }
 
-// Two halves, since what a function costs its crate's check grows with the square of its rows.
+fn in_moment(c: Clause, f: Field) {
+    let number = c.number;
+    match number {
+        20 => data_type(f, c.which),
+        21 => row(f, b"scale", b"it is not 1..32,768"),
+        22 => row(f, b"offset", b"it is not 0..32,768"),
+        23 => bin_length(f, c.which),
+        _ => length(f, c.which),
+    }
+}
+
+// In three parts, since what a function costs its crate's check grows with the square of its rows.
 fn say_clause(c: Clause, f: Field) {
     let number = c.number;
     match number {
         1..=9 => before_radials(c, f),
-        _ => in_radials(c, f),
+        20..=24 => in_moment(c, f),
+        _ => in_radial(c, f),
     }
 }
 
