@@ -262,7 +262,7 @@ SLIPS = {
     # trailing bytes cited at the trailing bytes (document 02, #104)
     'trailing_bytes_cited': [
         ('crates/citing/specs/Refusals.antt', 'block due.Radial (w .count .whole) 0 (w .present .start)', 'block due.Radial (w .count .whole) 0 (w .at)'),
-        ('crates/citing/src/refusals.rt', 'place: w.present.start,', 'place: w.at,'),
+        ('crates/citing/src/refusals.rt', 'named(Due::Radial, whole, 0, start)', 'named(Due::Radial, whole, 0, at)'),
         ('crates/citing/src/refusals.rt', 'four(file, w.present.start)', 'four(file, at)'),
         ('crates/citing/proofs/Whys.antt', 'f w .place ≡ w .present .start', 'f w .place ≡ w .at'),
         ('crates/citing/proofs/refusals/file/Proof.antt', 'let q : w .present .start ≡', 'let q : w .at ≡'),

@@ -6,7 +6,7 @@ ghost use Rattle.rules.specs.Check.{verdict};
 ghost use Rattle.reading.specs.Exactly.{rulesOf};
 ghost use Rattle.reading.specs.Reading.{stop as stopOf};
 ghost use Rattle.citing.specs.Fields.{fieldAt};
-ghost use Rattle.citing.specs.Refusals.{blockDue, whyOf};
+ghost use Rattle.citing.specs.Refusals.{block, blockDue, whyOf};
 use crate::Field;
 use crate::four;
 use crate::two;
@@ -94,65 +94,39 @@ fn turn(all: u32, todo: usize) -> usize
     if n < todo { 1 } else { n - todo + 1 }
 }
 
+fn named(kind: Due, number: usize, moment: usize, place: usize) -> Block
+    ensures { λ r. ⌜ r ≡ block kind number moment place ⌝ }
+{
+    Block {
+        kind,
+        number,
+        moment,
+        place,
+    }
+}
+
 // The block that is due, or the radial that closed the volume.
 fn block_due(file: &[u8], w: Walk) -> Block
     requires { ⌜ w .count .whole + 1 < 2 ^ 64 ⌝ }
     ensures { λ r. ⌜ r ≡ blockDue (w .due) (now (file .entry)) w ⌝ }
 {
-    let place = w.at;
+    let at = w.at;
     let due = w.due;
+    let whole = w.count.whole;
+    let todo = w.rest.todo;
+    let start = w.present.start;
     match due {
-        Due::Generic => Block {
-            kind: Due::Generic,
-            number: 1,
-            moment: 0,
-            place,
-        },
-        Due::Site => Block {
-            kind: Due::Site,
-            number: 1,
-            moment: 0,
-            place,
-        },
-        Due::Task => Block {
-            kind: Due::Task,
-            number: 1,
-            moment: 0,
-            place,
-        },
-        Due::Cut => Block {
-            kind: Due::Cut,
-            number: turn(w.plan.cuts, w.rest.todo),
-            moment: 0,
-            place,
-        },
-        Due::Radial => Block {
-            kind: Due::Radial,
-            number: w.count.whole + 1,
-            moment: 0,
-            place,
-        },
-        Due::Moment => Block {
-            kind: Due::Moment,
-            number: w.count.whole + 1,
-            moment: turn(
-                Radial::read(file, w.present.start).moment_number,
-                w.rest.todo,
-            ),
-            place,
-        },
-        Due::Data => Block {
-            kind: Due::Data,
-            number: 0,
-            moment: 0,
-            place,
-        },
-        Due::Nothing => Block {
-            kind: Due::Radial,
-            number: w.count.whole,
-            moment: 0,
-            place: w.present.start,
-        },
+        Due::Generic => named(Due::Generic, 1, 0, at),
+        Due::Site => named(Due::Site, 1, 0, at),
+        Due::Task => named(Due::Task, 1, 0, at),
+        Due::Cut => named(Due::Cut, turn(w.plan.cuts, todo), 0, at),
+        Due::Radial => named(Due::Radial, whole + 1, 0, at),
+        Due::Moment => {
+            let moments = Radial::read(file, start).moment_number;
+            named(Due::Moment, whole + 1, turn(moments, todo), at)
+        }
+        Due::Data => named(Due::Data, 0, 0, at),
+        Due::Nothing => named(Due::Radial, whole, 0, start),
     }
 }
 
@@ -183,7 +157,7 @@ pub fn file(file: &[u8]) -> Why
             let clause = Clause {
                 number: 25,
                 which: 1,
-                place: 0,
+                place: Radial::STATE as u8,
                 size: 4,
             };
             return Why::Broken(Cited {

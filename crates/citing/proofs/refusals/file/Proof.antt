@@ -59,8 +59,8 @@ returns-3 c =
     let h = c .if3 .taken in
     ap why.Open (omega arith) ∙ sym (why-short f w (sym (c .before .before .before .is-end .ensures) ∙ c .before .before .if1 .left) (omega arith)) ∙ ap (whyAt f) (c .before .before .before .before .before .stop .ensures)
 
-add-t21 : tie.Need-add-t21
-add-t21 c = let k = inside (c .before .before .before .before .before .before .before .before .before .before .before .before .args .file .now) (c .before .before .before .before .before .before .before .before .before .before .stop .result) (c .before .before .before .before .before .before .before .before .before .before .stop .ensures) in omega arith
+add-t22 : tie.Need-add-t22
+add-t22 c = let k = inside (c .before .before .before .before .before .before .before .before .before .before .before .before .args .file .now) (c .before .before .before .before .before .before .before .before .before .before .stop .result) (c .before .before .before .before .before .before .before .before .before .before .stop .ensures) in omega arith
 
 field-requires : tie.Need-field-requires
 field-requires c κs =
@@ -102,5 +102,6 @@ pub file-spec : {M : Type 1} → statement M
 file-spec =
     tie.close
     (tie.spec
-    (λ c κs. search needs) block-due-requires (λ c κs. search needs) (λ c κs. search needs) returns returns-2 (λ c κs. search needs) sub-here
-    (λ c. search needs) returns-3 (λ c κs. search needs) (λ c. search needs) (λ c. search needs) (λ c. search needs) add-t21 field-requires returns-4 returns-5)
+    (λ c κs. search needs) block-due-requires (λ c κs. search needs) (λ c. search needs) (λ c κs. search needs) returns returns-2
+    (λ c κs. search needs) sub-here (λ c. search needs) returns-3 (λ c κs. search needs) (λ c. search needs) (λ c. search needs)
+    (λ c. search needs) add-t22 field-requires returns-4 returns-5)
