@@ -112,8 +112,7 @@ SLIPS = {
         ('crates/rules/proofs/Numbers.antt', '1 256 257', '1 255 257'),
         ('crates/rules/proofs/Numbers.antt', 'cond b 1 256', 'cond b 1 255'),
         ('crates/rules/proofs/Numbers.antt', '(pos 256) (int n)', '(pos 255) (int n)'),
-        ('crates/rules/proofs/Allowed.antt', '(pos 256) (int n)', '(pos 255) (int n)'),
-        ('crates/rules/proofs/Allowed.antt', 'inside w32 1 256 n', 'inside w32 1 255 n'),
+        ('crates/rules/proofs/Numbers.antt', 'inside w32 1 256 n', 'inside w32 1 255 n'),
     ],
     # the sequence up to 65,535 (number 12; document 02, #106)
     'sequence_to_65535': [

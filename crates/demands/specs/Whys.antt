@@ -1,15 +1,20 @@
 -- Say why (document 02, #104): for a gate's answer the bytes that give it, for a refused file the block, the field and the clause; and the
 -- table's clauses, with their fields, as the rule lists have them.
-use Prim.Native.Nat.{ℕ}
+use Prim.Native.Nat.{ℕ, _+_, _*_, _%_}
+use mathlib.Core.Bool.{_&&_, cond, not}
 use mathlib.Core.List.{List, [], _∷_, map}
 use mathlib.Core.Path.{_≡_}
+use lib.Dec.{eqb, leb}
+use lib.IntN.{pos}
 use lib.ListN.{length}
-use Rattle.le.specs.Le.{le, Bytes}
-use Rattle.rules.specs.Check.{Rule, breaks}
-use Rattle.rules.specs.Masks.{binLengthClauses, typeClauses}
-use Rattle.rules.specs.Ranges.{countClauses, mostRadials, mostSequence}
-use Rattle.rules.specs.States.{cutNumberClauses}
-use Rattle.rules.specs.Tiling.{lengthClauses, momentNumberClauses}
+use Rattle.le.specs.Le.{int, le, short, Bytes}
+use Rattle.rules.specs.declared.check.Check.{Check}
+use Rattle.rules.specs.declared.check.Check.the-variants.{Fine, Broken}
+use Rattle.rules.specs.Check.{Rule, breaks, every, holds, rule, verdict}
+use Rattle.rules.specs.Masks.{binLengthClauses, bit, typeClauses}
+use Rattle.rules.specs.Ranges.{among, countClauses, is, mostRadials, mostSequence}
+use Rattle.rules.specs.States.{cutNumberClauses, mostCuts}
+use Rattle.rules.specs.Tiling.{leastMoment, lengthClauses, momentNumberClauses, mostLength, tiles}
 use Rattle.cut.specs.Cut.{cutOf, cutRules}
 use Rattle.generic.specs.Generic.{genericOf, genericRules}
 use Rattle.moment.specs.declared.MomentDue.{MomentDue}
@@ -92,6 +97,27 @@ pub record Clauses : Type 0 where
   pub twenty-three : twenty-threes ≡ 0 ∷ 1 ∷ 1 ∷ 0 ∷ 2 ∷ 2 ∷ []
   pub twenty-four : twenty-fours ≡ 0 ∷ 1 ∷ 1 ∷ 2 ∷ 3 ∷ 3 ∷ 0 ∷ 3 ∷ []
 
+-- ---- the refusals of before
+
+-- a rule with all of its clauses as one
+abbrev pub asOne : Rule → Rule
+asOne r = rule (r .place) (r .size) (r .number) (holds r ∷ [])
+
+-- the number and the place in the block by which a block is refused; none where it is fine
+abbrev pub refusalIn : Check → List ℕ
+refusalIn Fine = []
+refusalIn (Broken c) = c .number ∷ c .place ∷ []
+
+-- numbers and places are those of one line a field, and each such line holds where it held
+pub record AsBefore : Type 0 where
+  pub numbers : (rs : List Rule) → refusalIn (verdict rs) ≡ refusalIn (verdict (map asOne rs))
+  pub eight : (scan n : ℕ) → every (cutNumberClauses scan n) ≡ among (pos 1) (pos (mostCuts scan)) (int n)
+  pub twelve : (most before n : ℕ) → every (countClauses most before n) ≡ (is (before + 1) (int n) && leb (before + 1) most)
+  pub nineteen : (left k : ℕ) → every (momentNumberClauses left k) ≡ (among (pos 1) (pos 64) (int k) && leb (leastMoment * k) left)
+  pub twenty : (mask seen t : ℕ) → every (typeClauses mask seen t) ≡ (among (pos 1) (pos 64) (int t) && not (bit seen t) && bit mask t)
+  pub twenty-three : (sizes t bin : ℕ) → every (binLengthClauses sizes t bin) ≡ cond (bit sizes t) (is 2 (short bin)) (is 1 (short bin))
+  pub twenty-four : (todo left bin n : ℕ) → every (lengthClauses todo left bin n) ≡ (among (pos 1) (pos mostLength) (int n) && eqb (n % bin) 0 && tiles todo left n)
+
 -- ---- the statement
 
 pub record Whys : Type 0 where
@@ -104,3 +130,5 @@ pub record Whys : Type 0 where
   -- the fields and the clauses are the table's
   pub lines : (b : List ℕ) (d : RadialDue) (e : MomentDue) → Lines b d e
   pub clauses : Clauses
+  -- and no refusal has changed for it
+  pub as-before : AsBefore

@@ -1,27 +1,22 @@
 -- What numbers 8, 10, 12 and 13 allow, both ways, by the numbers of specs/States and specs/Ranges. Assumes nothing.
-use mathlib.Core.Path.{_≡_, refl}
+use mathlib.Core.Path.{_≡_, refl, sym, _∙_}
 use mathlib.Core.Bool.{Bool, true, false, _||_, or-true}
 use mathlib.Core.Logic.{_⊎_, inl, inr, _↔_}
 use Prim.Native.Nat.{ℕ, _+_, _≤_, _<_}
 use native.Mathlib.Omega.{arith}
 use borrow.Author.Tests.{le-leb, ne-eqb}
 use lib.Dec.{lit<}
-use lib.IntN.{pos}
 use mir.Syntax.{w32}
 use Rattle.le.specs.Le.{int}
-use Rattle.le.proofs.Tests.{both}
-use Rattle.rules.specs.Ranges.{among, is, counts, countClauses}
-use Rattle.rules.specs.States.{mostCuts, cutNumberOk, cutNumberClauses, opening, closing, stateOk}
-use Rattle.rules.proofs.Numbers.{inside, some-cut, most, exact, exact-if, counts-is, counts-most, mostCuts-most, mostCuts-small, opening-small, closing-small}
+use Rattle.rules.specs.Ranges.{is, counts, countClauses}
+use Rattle.rules.specs.States.{mostCuts, cutNumberOk, opening, closing, stateOk}
+use Rattle.rules.proofs.Numbers.{inside, cut-by-scan, some-cut, most, exact, exact-if, counts-is, counts-most, mostCuts-small, opening-small, closing-small}
 
 pub cuts-allowed : (scan n : ℕ) → (cutNumberOk scan n ≡ true) ↔ ((1 ≤ n) × (n ≤ mostCuts scan))
-unfolding cutNumberClauses
 cuts-allowed scan n =
     let small = mostCuts-small scan in
-    let any = mostCuts-most scan in (
-      λ e. (some-cut scan n e, most w32 1 (mostCuts scan) n small (both (among (pos 1) (pos 256) (int n)) _ e .1)),
-      λ h. let a = h .0 in let b = h .1 in rw (← inside w32 1 256 n (lit< tt) a (omega arith), ← inside w32 1 (mostCuts scan) n small a (omega arith)),
-    )
+    let same = cut-by-scan scan n in
+    (λ e. (some-cut scan n e, most w32 1 (mostCuts scan) n small (sym same ∙ e)), λ h. same ∙ sym (inside w32 1 (mostCuts scan) n small (h .0) (omega arith)))
 
 pub count-allowed : (most before n : ℕ) → most < 2147483648 → (counts most before n ≡ true) ↔ ((n ≡ before + 1) × (n ≤ most))
 unfolding countClauses

@@ -67,11 +67,11 @@ stays c [] = refl
 stays c (r ∷ rs) = stays c rs
 
 -- the rules behind one that holds, and behind one that does not
-on : (r : Rule) (rs : List Rule) → breaks (r .clauses) ≡ 0 → verdict (r ∷ rs) ≡ verdict rs
+pub on : (r : Rule) (rs : List Rule) → breaks (r .clauses) ≡ 0 → verdict (r ∷ rs) ≡ verdict rs
 unfolding also
 on r rs e = rw e
 
-off : (r : Rule) (rs : List Rule) (k : ℕ) → breaks (r .clauses) ≡ k → 0 < k → verdict (r ∷ rs) ≡ Broken (clauseOf r k)
+pub off : (r : Rule) (rs : List Rule) (k : ℕ) → breaks (r .clauses) ≡ k → 0 < k → verdict (r ∷ rs) ≡ Broken (clauseOf r k)
 unfolding also
 off r rs k e h = rw (e, ne-eqb k 0 (λ z. omega arith)) (stays (clauseOf r k) rs)
 

@@ -182,6 +182,19 @@ pub most : (w : Width) (lo hi x : ℕ) → hi < 2 ^ hbits w → among (pos lo) (
 unfolding within
 most w lo hi x h e = leb-true x hi (both (leb lo x) (leb x hi) (sym (by-bits w lo hi x h) ∙ e) .1)
 
+-- the two clauses of number 8 as one range
+pub cut-by-scan : (scan n : ℕ) → cutNumberOk scan n ≡ among (pos 1) (pos (mostCuts scan)) (int n)
+unfolding cutNumberClauses
+cut-by-scan scan n = go (among (pos 1) (pos (mostCuts scan)) (int n)) refl
+  where
+    go : (b : Bool) → among (pos 1) (pos (mostCuts scan)) (int n) ≡ b → (among (pos 1) (pos 256) (int n) && b) ≡ b
+    go true e =
+        let small = mostCuts-small scan in
+        let any = mostCuts-most scan in
+        let h = most w32 1 (mostCuts scan) n small e in
+        rw (← inside w32 1 256 n (lit< tt) (least w32 1 (mostCuts scan) n small e) (omega arith))
+    go false e = and-false (among (pos 1) (pos 256) (int n))
+
 pub exact-if : (n x : ℕ) → n < 2147483648 → x ≡ n → is n (int x) ≡ true
 exact-if n x h e = exactly w32 n x h ∙ eq-eqb x n e
 
@@ -206,8 +219,7 @@ counts-most most before n e = leb-true (before + 1) most (both (is (before + 1) 
 
 -- an accepted task has a cut (number 8), an accepted radial header announces a moment (number 19)
 pub some-cut : (scan n : ℕ) → cutNumberOk scan n ≡ true → 1 ≤ n
-unfolding cutNumberClauses
-some-cut scan n e = least w32 1 (mostCuts scan) n (mostCuts-small scan) (both (among (pos 1) (pos 256) (int n)) _ e .1)
+some-cut scan n e = least w32 1 (mostCuts scan) n (mostCuts-small scan) (sym (cut-by-scan scan n) ∙ e)
 
 pub some-moment : (left k : ℕ) → momentNumberOk left k ≡ true → 1 ≤ k
 unfolding momentNumberClauses
