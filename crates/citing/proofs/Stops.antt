@@ -35,7 +35,6 @@ use Rattle.reading.specs.Exactly.{rulesOf, rule, trailing, hopeless}
 use Rattle.reading.specs.Reading.{fuel, plainStop, stop, told}
 use Rattle.reading.proofs.Run.{View, view, is-here, stays, run-stops, enough, last-within}
 use Rattle.reading.proofs.Run as run
-use Rattle.reading.proofs.Closing.{closed}
 use Rattle.reading.proofs.Exactly.{settled, told-exactly}
 use Rattle.volume.specs.Volume.{VolumeRadial, Volume, bytesOfMoment, bytesOfVolume}
 use Rattle.volume.specs.Accepted.{Begun, Accepted, nothing, generic, site, task, radials, radial, moment, volume, volumeOf, bytesOfAccepted, radialsIn, RadialBegun, AcceptedOk, dueSize, dueRules, Says, complete, missing}
