@@ -21,7 +21,7 @@ use Rattle.writer.specs.declared.order.Answer.the-variants.{Taken, Refus
 use Rattle.writer.specs.declared.order.Put.{Put}
 use Rattle.writer.specs.Agree.{sameKind, agrees}
 use Rattle.writer.specs.Block.{Block, kindOf, saysOf, fitsOf, lengthOf, bytesOf}
-use Rattle.writer.specs.Put.{lastTests, checked, answerTo, nextOf, outcome, putOn, put, Puts}
+use Rattle.writer.specs.Put.{lastTests, checked, answerTo, nextOf, settled, settledBy, outcome, putOn, put, Puts}
 use Rattle.writer.proofs.Same.{kind-is, kind-if}
 
 -- ---- a refusal is no taking
@@ -84,52 +84,47 @@ passes kind says fits size w room h =
 pub has-passed : (kind : Due) (says : Step) (fits : Bool) (size : ℕ) (w : Walk) (room : ℕ) {a : Answer} → a ≡ answerTo kind says fits size w room → a ≡ Taken → Passed kind says fits size w room
 has-passed kind says fits size w room e t = passed kind says fits size w room (sym e ∙ t)
 
--- ---- what is said with no room behind it: the answer is the same in any room, which has fewer than 2^63 bytes
+-- ---- what is said with no room behind it: what is settled by it is the same for any room, which has fewer than 2^63 bytes
 
-module _ (b : Block) (w : Walk) (room : List ℕ) {s : Step} (said : s ≡ inRoom (w .at) (saysOf b room w)) (short : length room < 2 ^ 63) where
-  said-is : w .at ≤ length room → s ≡ saysOf b room w
-  said-is h = said ∙ sym (fits-room (w .at) (saysOf b room w) (omega arith))
-
-  answer-in : {a : Answer} → a ≡ answerTo (kindOf b) s (fitsOf b w) (lengthOf b) w (length room)
-      → a ≡ answerTo (kindOf b) (saysOf b room w) (fitsOf b w) (lengthOf b) w (length room)
-  unfolding answerTo
-  answer-in e = e ∙ go (ltb (length room) (w .at)) refl
+module _ (kind : Due) {s : Step} (says : Step) (fits : Bool) (size : ℕ) (w : Walk) (room : ℕ) (said : s ≡ inRoom (w .at) says) (short : room < 2 ^ 63) where
+  pub settled-in : {p : Put} → p ≡ settledBy kind s fits size w room → p ≡ settledBy kind says fits size w room
+  unfolding answerTo settled
+  settled-in e = e ∙ go (ltb room (w .at)) refl
     where
-      go : (t : Bool) → ltb (length room) (w .at) ≡ t
-          → answerTo (kindOf b) s (fitsOf b w) (lengthOf b) w (length room) ≡ answerTo (kindOf b) (saysOf b room w) (fitsOf b w) (lengthOf b) w (length room)
+      go : (t : Bool) → ltb room (w .at) ≡ t → settledBy kind s fits size w room ≡ settledBy kind says fits size w room
       go true q = rw q
-      go false q = ap (λ (x : Step). answerTo (kindOf b) x (fitsOf b w) (lengthOf b) w (length room)) (said-is (ltb-false (length room) (w .at) q))
+      go false q =
+          let h = ltb-false room (w .at) q in
+          ap (λ (x : Step). settledBy kind x fits size w room) (said ∙ sym (fits-room (w .at) says (omega arith)))
 
-  next-in : {a : Answer} {n : Walk} → a ≡ answerTo (kindOf b) s (fitsOf b w) (lengthOf b) w (length room) → a ≡ Taken → n ≡ nextOf s w
-      → n ≡ nextOf (saysOf b room w) w
-  next-in e t q = q ∙ ap (λ (x : Step). nextOf x w) (said-is (has-passed _ _ _ _ w _ e t .within))
+pub answer-is : (a : Answer) (s : Step) (w : Walk) → settled a s w .answer ≡ a
+unfolding settled
+answer-is Taken s w = refl
+answer-is (Refused n p) s w = refl
 
--- ---- what a function that answers so has done
+-- ---- what a function has done that stores what it settled
 
-module _ (b : Block) (w : Walk) (room : List ℕ) {a : Answer} (answered : a ≡ answerTo (kindOf b) (saysOf b room w) (fitsOf b w) (lengthOf b) w (length room)) where
-  pub puts-taken : {held : List ℕ} {n : Walk} {p : Put} → a ≡ Taken → held ≡ stored (lengthOf b) room (w .at) (bytesOf b)
-      → n ≡ nextOf (saysOf b room w) w → p ≡ record { answer = Taken; walk = n } → Puts (putOn b w room) p held
-  unfolding putOn outcome
-  puts-taken t h m q =
-      rw (sym answered ∙ t, q) (record {
+module _ (b : Block) (w : Walk) (room : List ℕ) {p : Put} (e : p ≡ settledBy (kindOf b) (saysOf b room w) (fitsOf b w) (lengthOf b) w (length room)) where
+  answered : {a : Answer} → p .answer ≡ a → answerTo (kindOf b) (saysOf b room w) (fitsOf b w) (lengthOf b) w (length room) ≡ a
+  answered t = sym (answer-is _ (saysOf b room w) w) ∙ ap (λ (x : Put). x .answer) (sym e) ∙ t
+
+  pub puts-taken : {held : List ℕ} → p .answer ≡ Taken → held ≡ stored (lengthOf b) room (w .at) (bytesOf b) → Puts (putOn b w room) p held
+  unfolding putOn outcome settled
+  puts-taken t h =
+      let a = answered t in
+      let q : p ≡ record { answer = Taken; walk = nextOf (saysOf b room w) w } = rw a at e in
+      rw (a, q) (record {
         answer = refl;
-        walk = m;
-        room = h ∙ stored-in (lengthOf b) room (w .at) (bytesOf b) (has-passed _ _ _ _ w _ answered t .suffices);
+        walk = refl;
+        room = h ∙ stored-in (lengthOf b) room (w .at) (bytesOf b) (passed _ _ _ _ w _ a .suffices);
       })
 
-  pub puts-refused : {p : Put} (number place : ℕ) → a ≡ Refused number place → p ≡ record { answer = Refused number place; walk = w } → Puts (putOn b w room) p room
-  unfolding putOn outcome
-  puts-refused number place t q = rw (sym answered ∙ t, q) (record { answer = refl; walk = refl; room = refl })
-
--- and one that answers by what is said with no room behind it
-module _ (b : Block) (w : Walk) (room : List ℕ) {s : Step} (said : s ≡ inRoom (w .at) (saysOf b room w)) (short : length room < 2 ^ 63) {a : Answer}
-    (answered : a ≡ answerTo (kindOf b) s (fitsOf b w) (lengthOf b) w (length room)) where
-  pub puts-said : {held : List ℕ} {n : Walk} {p : Put} → a ≡ Taken → held ≡ stored (lengthOf b) room (w .at) (bytesOf b)
-      → n ≡ nextOf s w → p ≡ record { answer = Taken; walk = n } → Puts (putOn b w room) p held
-  puts-said t h m q = puts-taken b w room (answer-in b w room said short answered) t h (next-in b w room said short answered t m) q
-
-  pub puts-not : {p : Put} (number place : ℕ) → a ≡ Refused number place → p ≡ record { answer = Refused number place; walk = w } → Puts (putOn b w room) p room
-  puts-not number place t q = puts-refused b w room (answer-in b w room said short answered) number place t q
+  pub puts-refused : (n k : ℕ) → p .answer ≡ Refused n k → Puts (putOn b w room) p room
+  unfolding putOn outcome settled
+  puts-refused n k t =
+      let a = answered t in
+      let q : p ≡ record { answer = Refused n k; walk = w } = rw a at e in
+      rw (a, q) (record { answer = refl; walk = refl; room = refl })
 
 module _ (b : Block) (w : Walk) (room : List ℕ) where
   pub puts-agreed : {held : List ℕ} {p : Put} {t : Bool} → t ≡ agrees w room → t ≡ true → Puts (putOn b w room) p held → Puts (put b w room) p held

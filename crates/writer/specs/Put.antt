@@ -58,6 +58,14 @@ nextOf (step.Refused n p) w = w
 nextOf (step.Open n) w = w
 nextOf step.Complete w = w
 
+-- the answer and the state from now on, by what the reader says of a block: all of an outcome but the room ("Writing")
+unfoldable pub settled : Answer → Step → Walk → Put
+settled Taken says w = record { answer = Taken; walk = nextOf says w }
+settled (Refused n p) says w = record { answer = Refused n p; walk = w }
+
+abbrev pub settledBy : Due → Step → Bool → ℕ → Walk → ℕ → Put
+settledBy kind says fits size w room = settled (answerTo kind says fits size w room) says w
+
 -- a block taken is stored at the end of what is written, and no other byte changes; a refusal changes nothing ("Writing")
 unfoldable pub outcome : Answer → Step → List ℕ → Walk → List ℕ → Outcome
 outcome Taken says bs w room = record { answer = Taken; walk = nextOf says w; room = patch room (w .at) bs }

@@ -9,6 +9,7 @@ ghost use Rattle.writer.specs.Put.{put, Puts};
 mod agree;
 mod on;
 pub mod order;
+pub mod settle;
 
 use crate::agree::agrees;
 use crate::on::cut_on;
