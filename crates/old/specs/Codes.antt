@@ -8,6 +8,8 @@ use lib.IntN.{ℤ, pos, _-ℤ_, _*ℤ_}
 use lib.ListN.{getD}
 use Rattle.le.specs.Le.{bytes}
 use Rattle.gates.specs.declared.Coding.{Coding}
+use Rattle.gates.specs.declared.Told.{Told}
+use Rattle.gates.specs.Gates.{toldGate}
 use Rattle.old.specs.declared.codes.Quantity.{Quantity}
 use Rattle.old.specs.declared.codes.Quantity.the-variants.{Reflectivity, Velocity, Width}
 
@@ -71,3 +73,7 @@ abbrev pub Says : ℕ → ℤ → ℕ → Meaning → Type 0
 Says kind difference scale noEcho = kind ≡ 0
 Says kind difference scale folded = kind ≡ 1
 Says kind difference scale (worth q) = (kind ≡ 5) × (0 < scale) × (0 < q .lower) × Same (over difference scale) q
+
+-- and so does what the gate question tells (document 02, #102)
+abbrev pub Tells : Told → Meaning → Type 0
+Tells t m = Says (toldGate (t .gate) .0) (t .difference) (t .scale) m

@@ -1,0 +1,11 @@
+pub mod Angles
+pub mod Times
+pub mod Kept
+pub mod Back
+pub mod Lengths
+pub mod Fitting
+pub mod Fine
+pub mod Fewer
+pub mod Accepted
+pub mod Moments
+pub mod Numbers
