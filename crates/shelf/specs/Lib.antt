@@ -1,0 +1,2 @@
+pub mod Import
+pub mod Settled
