@@ -1,0 +1,4 @@
+pub mod Many
+pub mod Whole
+pub mod Own
+pub mod Retold
