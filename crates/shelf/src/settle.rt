@@ -144,7 +144,7 @@ pub(crate) fn settle_ours(g: Generic, s: Site, t: Task, cuts: &[u8], room: &[u8]
 fn counted(n: usize) -> u32
     ensures { λ r. ⌜ r ≡ countedOf n ⌝ }
 {
-    std::num::wrapping_add_usize(n, 1) as u32
+    (std::num::wrapping_add_usize(n, 1) % 0x1_0000_0000) as u32
 }
 
 // Its header, counted anew.
