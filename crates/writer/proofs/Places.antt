@@ -62,12 +62,19 @@ far-on due.Moment p w m h e = subst (λ (x : Walk). Far (x .due) x) (settle-took
 far-on due.Data p w m h e = subst (λ (x : Walk). Far (x .due) x) (took-inj _ m e) (far-data (ltb 0 (w .rest .todo)) (closesCut w) (ltb (w .count .cut) (w .plan .cuts)) w (w .at + w .rest .length) refl (omega arith) h)
 far-on due.Nothing p w m h e = absurd (let z : _≡_ {A = ℕ} 0 1 = cc in omega arith)
 
--- where a radial is due, its cut's block lies in what was read
-pub cut-behind : (f : List ℕ) (w : Walk) → stop f ≡ w → w .due ≡ due.Radial → cutPlace (w .count .cut) + 256 ≤ w .at
+behind : (f : List ℕ) (w : Walk) → stop f ≡ w → w .due ≡ due.Radial → Behind w
 unfolding Far
-cut-behind f w e d =
+behind f w e d =
     let h : Far (w .due) w = subst (λ (x : Walk). Far (x .due) x) e (last-holds true f (λ x. Far (x .due) x) (λ v m q h. far-on (v .due) _ v m h (taken f v m q .block)) (fuel f) atStart tt) in
-    let b : Behind w = subst (λ (x : Due). Far x w) d h in
+    subst (λ (x : Due). Far x w) d h
+
+-- where a radial is due, its cut's block lies in what was read, and so does that of every cut
+pub cut-behind : (f : List ℕ) (w : Walk) → stop f ≡ w → w .due ≡ due.Radial → cutPlace (w .count .cut) + 256 ≤ w .at
+cut-behind f w e d =
+    let b = behind f w e d in
     let o = b .one in
     let c = b .cut in
     omega arith
+
+pub cuts-behind : (f : List ℕ) (w : Walk) → stop f ≡ w → w .due ≡ due.Radial → 416 + 256 * w .plan .cuts ≤ w .at
+cuts-behind f w e d = behind f w e d .cuts
