@@ -43,8 +43,8 @@ two-or-four x = go (eqb x 2) (eqb x 4) (eqb-true x 2) (eqb-true x 4)
     go false b two four ok = inr (four ok)
 
 -- the rules that are left for our reading to decide
-abbrev pub left : OldRadial → ℕ → ℕ → RadialDue → List Rule
-left o sequence number d =
+abbrev pub radialLeft : OldRadial → ℕ → ℕ → RadialDue → List Rule
+radialLeft o sequence number d =
     rule 0 4 10 (stateOk (d .«scan_type») (d .cuts) (d .cut) (d .«in_cut») (o .state) ∷ [])
     ∷ rule 8 4 12 (countClauses mostSequence (d .before) sequence)
     ∷ rule 12 4 13 (countClauses mostRadials (d .«in_cut») number)
@@ -52,7 +52,8 @@ left o sequence number d =
     ∷ rule 24 4 16 (leb (o .elevation) 16384 ∷ [])
     ∷ []
 
-module _ (o : OldRadial) (ok : oldCheck o ≡ Fine) (az : o .azimuth < 65536) (el : o .elevation < 65536) (sequence number : ℕ) (d : RadialDue) where
+module _ (o : OldRadial) (ok : oldCheck o ≡ Fine) (az : o .azimuth < 65536) (el : o .elevation < 65536)
+    (sequence number : ℕ) (d : RadialDue) where
   time : timeOk (o .day) (o .milliseconds) ≡ true
   time = rules-hold o ok .1 .0
 
@@ -64,17 +65,19 @@ module _ (o : OldRadial) (ok : oldCheck o ≡ Fine) (az : o .azimuth < 65536) (e
 
   seconds : notBelowZero (int (secondsOf (o .day) (o .milliseconds) % 2 ^ 32)) ≡ true
   seconds =
+      let s = secondsOf (o .day) (o .milliseconds) in
       let h = times.accepted (o .day) (o .milliseconds) time .2 in
-      rw (times.seconds-whole (o .day) (o .milliseconds) time) (zero-by-bits w32 (secondsOf (o .day) (o .milliseconds)) ∙ lt-ltb (secondsOf (o .day) (o .milliseconds)) 2147483648 (omega arith))
+      rw (times.seconds-whole (o .day) (o .milliseconds) time) (zero-by-bits w32 s ∙ lt-ltb s 2147483648 (omega arith))
 
   micros : among (pos 0) (pos 999999) (int (microsOf (o .milliseconds))) ≡ true
   micros = sym (inside w32 0 999999 (microsOf (o .milliseconds)) (lit< tt) (omega arith) (times.micros-small (o .milliseconds)))
 
-  pub header-check : radialCheck (radialFrom o sequence number) d ≡ verdict (left o sequence number d)
+  pub header-check : radialCheck (radialFrom o sequence number) d ≡ verdict (radialLeft o sequence number d)
   unfolding radialCheck radialFrom
   header-check =
-      let f : Fewer (radialRules (radialFrom o sequence number) d) (left o sequence number d) =
+      let f : Fewer (radialRules (radialFrom o sequence number) d) (radialLeft o sequence number d) =
       stays refl (goes spot (stays refl (stays refl (stays refl (goes (azimuth-fine (o .azimuth) az)
       (stays (ap (λ (b : Bool). rule 24 4 16 (b ∷ [])) (elevation-is (o .elevation) el)) (goes seconds (goes micros
-      (goes (length-fine (o .reflectivity) (o .doppler) counted) (goes (number-fine (o .reflectivity) (o .doppler) counted) done)))))))))) in
+      (goes (length-fine (o .reflectivity) (o .doppler) counted)
+      (goes (number-fine (o .reflectivity) (o .doppler) counted) done)))))))))) in
       fewer f Fine

@@ -44,7 +44,9 @@ module _ (q : Quantity) (r : ℕ) (l : List ℕ) (bs : Bytes l) (i : ℕ) (h : i
   pub gate-back : getD (codesOf 2 (run newBytes l)) i 0 ≡ newCode (getD l i 0)
   gate-back =
       let n : length (codesOf 2 (run newBytes l)) ≡ length l =
-      length-two 2 (run newBytes l) (λ e. omega arith) ∙ ap (λ (k : ℕ). k / 2) (new-length l ∙ mul-comm 2 (length l)) ∙ mul-div-cancel (length l) (lit< tt) in
+      length-two 2 (run newBytes l) (λ e. omega arith)
+      ∙ ap (λ (k : ℕ). k / 2) (new-length l ∙ mul-comm 2 (length l))
+      ∙ mul-div-cancel (length l) (lit< tt) in
       code-is 2 (run newBytes l) i (omega arith) ∙ code-there l i bs h
 
   pub gate-kept : Tells (toldOf (codingOf q r) (getD (codesOf 2 (run newBytes l)) i 0)) (meaning q r (getD l i 0))
@@ -53,7 +55,8 @@ module _ (q : Quantity) (r : ℕ) (l : List ℕ) (bs : Bytes l) (i : ℕ) (h : i
 -- the same over the old file: gate i of a moment of the radial at `at` is what the byte at its place meant
 module _ (q : Quantity) (f : List ℕ) (at : ℕ) (bs : Bytes f) (i : ℕ) (h : i < gatesOf q (oldAt f at)) where
   pub moment-kept : let o = oldAt f at in
-      Tells (toldOf (codingOf q (o .resolution)) (getD (codesOf 2 (run newBytes (oldCodes q f at))) i 0)) (meaning q (o .resolution) (getD f (at + placeOf q o + i) 0))
+      Tells (toldOf (codingOf q (o .resolution)) (getD (codesOf 2 (run newBytes (oldCodes q f at))) i 0))
+      (meaning q (o .resolution) (getD f (at + placeOf q o + i) 0))
   moment-kept =
       let o = oldAt f at in
       let n = gatesOf q o in

@@ -53,7 +53,9 @@ over-ninety n small h =
     let x = ofBits binary32 (angleBits n) in
     let y = ofInt binary32 (pos 90) in
     let v : HasValue x false (n * 180) 32768 = angle-exact n small in
-    fails (le x y) (λ e. let k = values-of-le x y (n * 180) 32768 90 1 (positive-of-value x (n * 180) 32768 v (omega arith)) (positive-of-value y 90 1 ninety (lit< tt)) v ninety (rw e tt) in omega arith)
+    let px = positive-of-value x (n * 180) 32768 v (omega arith) in
+    let py = positive-of-value y 90 1 ninety (lit< tt) in
+    fails (le x y) (λ e. let k = values-of-le x y (n * 180) 32768 90 1 px py v ninety (rw e tt) in omega arith)
 
 pub elevation-is : (n : ℕ) → n < 65536 → angle (negsuc 1) (pos 90) (angleBits n) ≡ leb n 16384
 unfolding angle between

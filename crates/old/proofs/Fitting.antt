@@ -42,7 +42,8 @@ count-fits r d = go (eqb r 0) (eqb d 0)
     go false true = omega arith
     go false false = omega arith
 
-pub radial-fits : (o : OldRadial) (sequence number : ℕ) → OldFits o → sequence < 256 ^ 4 → number < 256 ^ 4 → RadialFits (radialFrom o sequence number)
+pub radial-fits : (o : OldRadial) (sequence number : ℕ) → OldFits o → sequence < 256 ^ 4 → number < 256 ^ 4
+    → RadialFits (radialFrom o sequence number)
 unfolding radialFrom
 radial-fits o sequence number h s n =
     let st = h .state in
@@ -66,7 +67,8 @@ radial-fits o sequence number h s n =
     }
 
 -- how large the numbers of a moment's coding are
-pub coding-small : (q : Quantity) (r : ℕ) → (codingOf q r .«data_type» ≤ 4) × (1 ≤ codingOf q r .scale) × (codingOf q r .scale ≤ 2) × (codingOf q r .offset ≤ 132)
+pub coding-small : (q : Quantity) (r : ℕ)
+    → (codingOf q r .«data_type» ≤ 4) × (1 ≤ codingOf q r .scale) × (codingOf q r .scale ≤ 2) × (codingOf q r .offset ≤ 132)
 unfolding codingOf
 coding-small Reflectivity r = (omega arith, omega arith, omega arith, omega arith)
 coding-small Velocity r = go (eqb r 4)
@@ -80,4 +82,12 @@ pub moment-fits : (q : Quantity) (r n : ℕ) → n < 65536 → MomentFits (momen
 unfolding momentFrom
 moment-fits q r n h =
     let c = coding-small q r in
-    record { reserved = refl; «data_type» = omega arith; scale = omega arith; offset = omega arith; «bin_length» = lit< tt; flags = lit< tt; length = omega arith }
+    record {
+      reserved = refl;
+      «data_type» = omega arith;
+      scale = omega arith;
+      offset = omega arith;
+      «bin_length» = lit< tt;
+      flags = lit< tt;
+      length = omega arith;
+    }

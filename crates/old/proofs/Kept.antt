@@ -36,11 +36,13 @@ times a b k K =
     let t : b - a + a ≡ b = omega arith in
     let u : b * k ≡ (b - a) * k + a * k = ap (λ (x : ℕ). x * k) (sym t) ∙ s in
     let l : a * k < b * k = mul-lt-mul-of-pos-right h K in
-    ap (λ (z : ℤ). z *ℤ pos k) (diff-lt a b h) ∙ ap (λ (x : ℕ). negℤ (pos (x * k))) e ∙ neg-is ((b - a) * k) (omega arith) ∙ ap negsuc (omega arith) ∙ sym (diff-lt (a * k) (b * k) l))
+    ap (λ (z : ℤ). z *ℤ pos k) (diff-lt a b h) ∙ ap (λ (x : ℕ). negℤ (pos (x * k))) e
+    ∙ neg-is ((b - a) * k) (omega arith) ∙ ap negsuc (omega arith) ∙ sym (diff-lt (a * k) (b * k) l))
     (λ h. let s = add-mul (a - b) b k in
     let t : a - b + b ≡ a = omega arith in
     let u : a * k ≡ (a - b) * k + b * k = ap (λ (x : ℕ). x * k) (sym t) ∙ s in
-    ap (λ (z : ℤ). z *ℤ pos k) (diff-ge a b (omega arith)) ∙ ap pos (omega arith) ∙ sym (diff-ge (a * k) (b * k) (mul-le-mul-right k (omega arith))))
+    ap (λ (z : ℤ). z *ℤ pos k) (diff-ge a b (omega arith)) ∙ ap pos (omega arith)
+    ∙ sym (diff-ge (a * k) (b * k) (mul-le-mul-right k (omega arith))))
 
 -- a code of w + 5 less the offset o, over s, is w / s - p / q
 same : (w o s p q : ℕ) → 0 < s → 0 < s * q → (w + 5) * (s * q) + p * s * s ≡ w * q * s + o * (s * q)
@@ -67,7 +69,8 @@ pub new-fits : (v : ℕ) → v < 256 → newCode v < 65536
 new-fits v h = dite (decLt v 2) (λ k. omega (arith, new-small v k)) (λ k. omega (arith, new-large v (omega arith)))
 
 -- ---- a special code stays itself
-special : (c : Coding) (v : ℕ) → v < 2 → valuesOf (toldOf c (newCode v)) ≡ record { gate = (v, nothing); difference = pos 0; scale = 0; hundredths = pos 0 }
+special : (c : Coding) (v : ℕ) → v < 2
+    → valuesOf (toldOf c (newCode v)) ≡ record { gate = (v, nothing); difference = pos 0; scale = 0; hundredths = pos 0 }
 special c v h = rw (new-small v h) (special-told c v (omega arith))
 
 -- ---- a value, by the moment
@@ -87,7 +90,9 @@ module _ (w : ℕ) where
 
   velocity : (b : Bool)
       → Tells (toldOf (record { «data_type» = 3; scale = cond b 1 2; offset = 132 }) (newCode (suc (suc w))))
-      (worth (cond b (less (over (pos (suc (suc w)) -ℤ pos 2) 1) (over (pos 127) 1)) (less (over (pos (suc (suc w)) -ℤ pos 2) 2) (over (pos 635) 10))))
+      (worth
+      (cond b (less (over (pos (suc (suc w)) -ℤ pos 2) 1) (over (pos 127) 1))
+      (less (over (pos (suc (suc w)) -ℤ pos 2) 2) (over (pos 635) 10))))
   unfolding isMeasurement
   velocity true = value (record { «data_type» = 3; scale = 1; offset = 132 }) 127 1 refl (lit< tt) (lit< tt) (omega arith)
   velocity false = value (record { «data_type» = 3; scale = 2; offset = 132 }) 635 10 refl (lit< tt) (lit< tt) (omega arith)

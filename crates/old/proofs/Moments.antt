@@ -1,5 +1,5 @@
--- What our rules can refuse of the moment header that an old radial gives: its type (20) and bin length (23), by the cut's
--- masks; scale, offset and length are right. Assumes nothing.
+-- What our rules can refuse of the moment header that an old radial gives: its type (20) and bin length (23), by the cut's masks,
+-- and its length (24), which is right where the bytes left are those of this moment and the ones behind it. Assumes nothing.
 use mathlib.Core.Path.{_≡_, refl, sym}
 use mathlib.Core.Bool.{true}
 use mathlib.Core.List.{List, [], _∷_}
@@ -21,6 +21,7 @@ use Rattle.moment.specs.Moment.{momentRules, momentCheck}
 use Rattle.old.specs.declared.codes.Quantity.{Quantity}
 use Rattle.old.specs.Codes.{codingOf}
 use Rattle.old.specs.Headers.{momentFrom}
+use Rattle.old.specs.Old.{mostDoppler}
 use Rattle.old.proofs.Fitting.{coding-small}
 use Rattle.old.proofs.Fewer.{Fewer, done, stays, goes, fewer}
 
@@ -31,22 +32,22 @@ offset-fine : (q : Quantity) (r : ℕ) → among (pos 0) (pos 32768) (int (codin
 offset-fine q r = let c = coding-small q r in sym (inside w32 0 32768 (codingOf q r .offset) (lit< tt) (omega arith) (omega arith))
 
 -- the rules that are left for our reading to decide
-abbrev pub left : Quantity → ℕ → ℕ → MomentDue → List Rule
-left q r g d =
+abbrev pub momentLeft : Quantity → ℕ → ℕ → MomentDue → List Rule
+momentLeft q r g d =
     rule 0 4 20 (typeClauses (d .mask) (d .seen) (codingOf q r .«data_type»))
     ∷ rule 12 2 23 (binLengthClauses (d .sizes) (codingOf q r .«data_type») 2)
     ∷ rule 16 4 24 (lengthClauses (d .todo) (d .left) 2 (2 * g))
     ∷ []
 
-pub moment-check : (q : Quantity) (r g : ℕ) (d : MomentDue) → momentCheck (momentFrom q r g) d ≡ verdict (left q r g d)
+pub moment-check : (q : Quantity) (r g : ℕ) (d : MomentDue) → momentCheck (momentFrom q r g) d ≡ verdict (momentLeft q r g d)
 unfolding momentCheck momentFrom
 moment-check q r g d =
-    let f : Fewer (momentRules (momentFrom q r g) d) (left q r g d) =
+    let f : Fewer (momentRules (momentFrom q r g) d) (momentLeft q r g d) =
     stays refl (goes (scale-fine q r) (goes (offset-fine q r) (stays refl (stays refl done)))) in
     fewer f Fine
 
 -- the length: two bytes a gate, the last moment leaving none and any other 33 for each that follows
-module _ (g todo left : ℕ) (some : 0 < g) (few : g ≤ 920) where
+module _ (g todo left : ℕ) (some : 0 < g) (few : g ≤ mostDoppler) where
   even : 2 * g % 2 ≡ 0
   even = omega arith
 

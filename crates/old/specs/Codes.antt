@@ -31,8 +31,8 @@ less p q = over (p .upper *ℤ pos (q .lower) -ℤ q .upper *ℤ pos (p .lower))
 abbrev pub Same : Fraction → Fraction → Type 0
 Same p q = p .upper *ℤ pos (q .lower) ≡ q .upper *ℤ pos (p .lower)
 
--- document 003: reflectivity (v - 2) / 2. - 32; velocity (v - 2) / 2. - 63.5 at resolution 0.5, and (v - 2) - 127 at resolution 1.0,
--- which the field tells by a 4; width (v - 2) / 2. - 63.5
+-- document 003: reflectivity (v - 2) / 2. - 32; velocity (v - 2) / 2. - 63.5 at resolution 0.5, and (v - 2) - 127 at resolution
+-- 1.0, which the field tells by a 4; width (v - 2) / 2. - 63.5
 unfoldable pub formula : Quantity → ℕ → ℕ → Fraction
 formula Reflectivity resolution v = less (over (pos v -ℤ pos 2) 2) (over (pos 32) 1)
 formula Velocity resolution v =
@@ -61,7 +61,8 @@ newCode v = cond (ltb v 2) v (v + 3)
 unfoldable pub newBytes : ℕ → List ℕ
 newBytes v = bytes 2 (newCode v)
 
--- the type, scale and offset of each moment (document 02, #102). No accepted radial has another resolution than 2 and 4 (number 53).
+-- the type, scale and offset of each moment (document 02, #102). No accepted radial has another resolution than 2 or 4 (number
+-- 53).
 unfoldable pub codingOf : Quantity → ℕ → Coding
 codingOf Reflectivity resolution = record { «data_type» = 2; scale = 2; offset = 69 }
 codingOf Velocity resolution = record { «data_type» = 3; scale = cond (eqb resolution 4) 1 2; offset = 132 }

@@ -68,8 +68,8 @@ countsOk r d = every (countsClauses r d)
 unfoldable pub resolutionOk : ℕ → Bool
 resolutionOk x = eqb x 2 || eqb x 4
 
--- its rules in the order of document 02, #102: place, size, number, clauses. A refusal is told at the radial's own first byte, so each
--- rule has the whole header for its field.
+-- its rules in the order of document 02, #102: place, size, number, clauses. A refusal is told at the radial's own first byte, so
+-- each rule has the whole header for its field.
 abbrev pub oldRules : OldRadial → List Rule
 oldRules o =
     -- radar mark (document 003): 1

@@ -2,8 +2,8 @@
 ghost use mathlib.Core.Path.{_≡_};
 ghost use Rattle.old.specs.Angle.{angleBits};
 
-// The angle is 45 * n over a power of two, so its digits are those of 45 * n, and no float operation is needed: doubled until it has
-// the 24 digits of a single, while x counts down from the exponent that 24 digits have.
+// The angle is 45 * n over a power of two, so its digits are those of 45 * n, and no float operation is needed: 45 * n is doubled
+// until it has the 24 digits of a single, while x counts down from the exponent that 24 digits have.
 pub fn angle(n: u16) -> u32
     ensures { λ r. ⌜ r ≡ angleBits n ⌝ }
 {

@@ -47,7 +47,8 @@ pub fn code(v: u8) -> u16
 
 // Our codes for a run of old ones into a room at a place, two bytes each, where they all fit; no other byte changes.
 pub fn put_codes(room: &mut [u8], at: usize, codes: &[u8])
-    ensures { λ _. ⌜ now (room .exit) ≡ stored (2 * length (now (codes .entry))) (now (room .entry)) at (run newBytes (now (codes .entry))) ⌝ }
+    ensures { λ _. ⌜ now (room .exit)
+        ≡ stored (2 * length (now (codes .entry))) (now (room .entry)) at (run newBytes (now (codes .entry))) ⌝ }
 {
     if le::has(room.len(), at, 2 * codes.len()) {
         put_codes_here(room, at, codes);
@@ -67,7 +68,10 @@ fn put_codes_here(room: &mut [u8], at: usize, codes: &[u8])
 
 // The same of n codes of the old file from a place on, where they are all there.
 pub fn put_moment(room: &mut [u8], at: usize, old: &[u8], from: usize, n: u16)
-    ensures { λ _. ⌜ now (room .exit) ≡ cond (leb (from + n) (length (now (old .entry)))) (stored (2 * n) (now (room .entry)) at (run newBytes (part n (now (old .entry)) from))) (now (room .entry)) ⌝ }
+    ensures { λ _. ⌜ now (room .exit)
+        ≡ cond (leb (from + n) (length (now (old .entry))))
+        (stored (2 * n) (now (room .entry)) at (run newBytes (part n (now (old .entry)) from)))
+        (now (room .entry)) ⌝ }
 {
     if le::has(old.len(), from, n as usize) {
         let end = from + n as usize;

@@ -1,5 +1,5 @@
-// The radial of the old shelf (document 003, SA/SB): 2432 bytes, of which 128 are its header. Every number of it is unsigned, and of
-// its fields the record has those that an import needs.
+// The radial of the old shelf (document 003, SA/SB): 2432 bytes, of which 128 are its header. Every number of it is unsigned; the
+// record has the fields that an import needs.
 ghost use mathlib.Core.Path.{_≡_};
 ghost use lib.Dec.{eqb};
 ghost use Rattle.rules.specs.Check.{breaks};

@@ -51,7 +51,9 @@ add-result : tie.Need-add-result Inv-loop μ-loop
 add-result c = omega arith
 
 returns-2 : tie.Need-returns-2 Inv-loop μ-loop
-returns-2 c = let l = c .before .loop in bits-are (c .before .before .before .args .n) (l .m) (l .x) (omega arith) (omega arith) (omega arith) (l .inv .0)
+returns-2 c =
+    let l = c .before .loop in
+    bits-are (c .before .before .before .args .n) (l .m) (l .x) (omega arith) (omega arith) (omega arith) (l .inv .0)
 
 pub angle-spec : {M : Type 1} → statement M
 angle-spec =

@@ -13,13 +13,17 @@ returns-2 : tie.Need-returns-2
 unfolding timeClauses
 returns-2 c =
     let a = c .before .before .before .before .args in
-    rw (le-leb 1 (a .day) (omega arith), lt-ltb (a .milliseconds) 86400000 (omega arith), le-leb (secondsOf (a .day) (a .milliseconds)) 2147483647 (omega (arith, c .before .seconds .ensures)))
+    let s = secondsOf (a .day) (a .milliseconds) in
+    let h = le-leb s 2147483647 (omega (arith, c .before .seconds .ensures)) in
+    rw (le-leb 1 (a .day) (omega arith), lt-ltb (a .milliseconds) 86400000 (omega arith), h)
 
 returns-3 : tie.Need-returns-3
 unfolding timeClauses
 returns-3 c =
     let a = c .before .before .before .before .args in
-    rw (le-leb 1 (a .day) (omega arith), lt-ltb (a .milliseconds) 86400000 (omega arith), lt-leb (secondsOf (a .day) (a .milliseconds)) 2147483647 (omega (arith, c .before .seconds .ensures)))
+    let s = secondsOf (a .day) (a .milliseconds) in
+    let h = lt-leb s 2147483647 (omega (arith, c .before .seconds .ensures)) in
+    rw (le-leb 1 (a .day) (omega arith), lt-ltb (a .milliseconds) 86400000 (omega arith), h)
 
 returns-4 : tie.Need-returns-4
 unfolding timeClauses

@@ -10,10 +10,11 @@ use Rattle.le.proofs.Laws.{part-is, length-part}
 use Rattle.old.proofs.codes.put_moment.Statement.{statement}
 use Rattle.old.proofs.codes.put_moment.Tie as tie
 
-test : (c : tie.Then1) → leb (c .before .before .before .before .args .from + c .before .before .before .before .args .n) (length (c .before .before .before .before .args .old .now)) ≡ true
+-- where the codes are all there
+test : (c : tie.Then1) → let s = c .before .before .before .before .args in leb (s .from + s .n) (length (s .old .now)) ≡ true
 test c = sym (c .before .has .ensures) ∙ c .if1 .taken
 
-fits : (c : tie.Then1) → c .before .before .before .before .args .from + c .before .before .before .before .args .n ≤ length (c .before .before .before .before .args .old .now)
+fits : (c : tie.Then1) → let s = c .before .before .before .before .args in s .from + s .n ≤ length (s .old .now)
 fits c = leb-true _ _ (test c)
 
 add-end : tie.Need-add-end
@@ -35,4 +36,6 @@ returns-2 c = rw (sym (c .before .has .ensures) ∙ c .if1 .left)
 pub put-moment-spec : {M : Type 1} → statement M
 put-moment-spec =
     tie.close
-    (tie.spec (λ c κs. search needs) add-end (λ c. search needs) (λ c. search needs) part-end (λ c κs. search needs) (λ c. search needs) returns returns-2)
+    (tie.spec
+    (λ c κs. search needs) add-end (λ c. search needs) (λ c. search needs) part-end (λ c κs. search needs) (λ c. search needs)
+    returns returns-2)
