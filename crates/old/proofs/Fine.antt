@@ -8,22 +8,18 @@ use native.Mathlib.Decide.{decLt}
 use native.Mathlib.Omega.{arith}
 use lib.Dec.{leb, lit<, lit≤}
 use lib.IntN.{pos, negsuc}
-use lib.Ieee.{Float, nan, inf, fin, binary32, up, down, round, ofInt, ofBits, le, lt, eq}
+use lib.Ieee.{Float, nan, inf, fin, binary32, up, down, ofInt, ofBits, le, lt, eq}
 use lib.Ieee.Back.{round-whole}
-use lib.Ieee.Bits.{is-true, ofBits-toBits}
+use lib.Ieee.Bits.{is-true}
 use lib.Ieee.Exact.{HasValue}
-use lib.Ieee.Fits.{round-fits, down-pos}
+use lib.Ieee.Fits.{down-pos}
 use lib.Ieee.Order.{round-mono}
 use lib.Ieee.Positive.{positive-of-value, values-of-le}
 use borrow.Author.Tests.{le-leb, lt-leb, lt-ltb}
 use Rattle.le.proofs.Tests.{fails}
 use Rattle.rules.specs.Ranges.{between, angle, isAzimuth}
 use Rattle.old.specs.Angle.{angleBits}
-use Rattle.old.proofs.Angles.{angle-exact}
-
-of-angle : (n : ℕ) → ofBits binary32 (angleBits n) ≡ round binary32 false (n * 180) 32768
-unfolding angleBits
-of-angle n = ofBits-toBits binary32 (round binary32 false (n * 180) 32768) (round-fits binary32 false (n * 180) 32768)
+use Rattle.old.proofs.Angles.{of-angle, angle-exact}
 
 at-most : (n k : ℕ) → n * 180 ≤ k * 32768 → le (ofBits binary32 (angleBits n)) (ofInt binary32 (pos k)) ≡ true
 unfolding ofInt
