@@ -18,10 +18,10 @@ use Rattle.reading.specs.Reading.{fuel, stop}
 use Rattle.reading.proofs.Run.{settle-took, took-inj, taken, last-holds}
 
 -- the cuts' blocks: those behind where radials come, and those still to come
-record Behind (w : Walk) : Type 0 where
-  one : 1 ≤ w .count .cut
-  cut : 416 + 256 * w .count .cut ≤ w .at
-  cuts : 416 + 256 * w .plan .cuts ≤ w .at
+pub record Behind (w : Walk) : Type 0 where
+  pub one : 1 ≤ w .count .cut
+  pub cut : 416 + 256 * w .count .cut ≤ w .at
+  pub cuts : 416 + 256 * w .plan .cuts ≤ w .at
 
 record Coming (w : Walk) : Type 0 where
   first : 416 ≤ w .at
@@ -62,19 +62,16 @@ far-on due.Moment p w m h e = subst (λ (x : Walk). Far (x .due) x) (settle-took
 far-on due.Data p w m h e = subst (λ (x : Walk). Far (x .due) x) (took-inj _ m e) (far-data (ltb 0 (w .rest .todo)) (closesCut w) (ltb (w .count .cut) (w .plan .cuts)) w (w .at + w .rest .length) refl (omega arith) h)
 far-on due.Nothing p w m h e = absurd (let z : _≡_ {A = ℕ} 0 1 = cc in omega arith)
 
-behind : (f : List ℕ) (w : Walk) → stop f ≡ w → w .due ≡ due.Radial → Behind w
+-- where a radial is due, the blocks of its cut and of every other lie in what was read
+pub behind : (f : List ℕ) (w : Walk) → stop f ≡ w → w .due ≡ due.Radial → Behind w
 unfolding Far
 behind f w e d =
     let h : Far (w .due) w = subst (λ (x : Walk). Far (x .due) x) e (last-holds true f (λ x. Far (x .due) x) (λ v m q h. far-on (v .due) _ v m h (taken f v m q .block)) (fuel f) atStart tt) in
     subst (λ (x : Due). Far x w) d h
 
--- where a radial is due, its cut's block lies in what was read, and so does that of every cut
 pub cut-behind : (f : List ℕ) (w : Walk) → stop f ≡ w → w .due ≡ due.Radial → cutPlace (w .count .cut) + 256 ≤ w .at
 cut-behind f w e d =
     let b = behind f w e d in
     let o = b .one in
     let c = b .cut in
     omega arith
-
-pub cuts-behind : (f : List ℕ) (w : Walk) → stop f ≡ w → w .due ≡ due.Radial → 416 + 256 * w .plan .cuts ≤ w .at
-cuts-behind f w e d = behind f w e d .cuts
