@@ -1,1 +1,5 @@
 pub mod Walks
+pub mod Settling
+pub mod Ours
+pub mod Over
+pub mod Imported
