@@ -39,15 +39,17 @@ code-there (v ∷ l) (suc i) bs h =
     ∙ le-own 2 (run newBytes l) (i * 2)
     ∙ code-there l i (record { byte = λ j. bs .byte (suc j) }) (omega arith)
 
+-- as many codes as were put
+pub codes-length : (l : List ℕ) → length (codesOf 2 (run newBytes l)) ≡ length l
+codes-length l =
+    length-two 2 (run newBytes l) (λ e. omega arith)
+    ∙ ap (λ (k : ℕ). k / 2) (new-length l ∙ mul-comm 2 (length l))
+    ∙ mul-div-cancel (length l) (lit< tt)
+
 -- every gate of a moment that was put: its kind and exact value are the old ones
 module _ (q : Quantity) (r : ℕ) (l : List ℕ) (bs : Bytes l) (i : ℕ) (h : i < length l) where
   pub gate-back : getD (codesOf 2 (run newBytes l)) i 0 ≡ newCode (getD l i 0)
-  gate-back =
-      let n : length (codesOf 2 (run newBytes l)) ≡ length l =
-      length-two 2 (run newBytes l) (λ e. omega arith)
-      ∙ ap (λ (k : ℕ). k / 2) (new-length l ∙ mul-comm 2 (length l))
-      ∙ mul-div-cancel (length l) (lit< tt) in
-      code-is 2 (run newBytes l) i (omega arith) ∙ code-there l i bs h
+  gate-back = let n = codes-length l in code-is 2 (run newBytes l) i (omega arith) ∙ code-there l i bs h
 
   pub gate-kept : Tells (toldOf (codingOf q r) (getD (codesOf 2 (run newBytes l)) i 0)) (meaning q r (getD l i 0))
   gate-kept = rw gate-back (kept q r (getD l i 0))

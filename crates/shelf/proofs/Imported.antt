@@ -67,7 +67,7 @@ module _ (c f : List ℕ) (bytes : Bytes f) (o : Outcome) (h : o .answer ≡ Tak
 -- ---- all of it
 
 module _ (g : Generic) (s : Site) (t : Task) (c f room : List ℕ) (gf : GenericFits g) (sf : SiteFits s) (tf : TaskFits t) (cb : Bytes c) (fb : Bytes f) where
-  front-stands : ours g s t c room .answer ≡ Taken → Standing c (ours g s t c room)
+  pub front-stands : ours g s t c room .answer ≡ Taken → Standing c (ours g s t c room)
   front-stands e =
       let a = ours-taken g s t c room gf sf tf cb e in
       let x = generic-trip.length-is g gf in

@@ -46,7 +46,7 @@ use Rattle.shelf.proofs.Settling.{putOf, settleAll, settle-append, AllR
 
 -- ---- their blocks
 
-join-fits : (xs ys : List Block) → FitsAll xs → FitsAll ys → FitsAll (xs ++ ys)
+pub join-fits : (xs ys : List Block) → FitsAll xs → FitsAll ys → FitsAll (xs ++ ys)
 join-fits [] ys a b = b
 join-fits (x ∷ xs) ys a b = (a .0, join-fits xs ys (a .1) b)
 
@@ -111,7 +111,7 @@ rest-length : (c : List ℕ) → length (drop (length c / 256 * 256) c) ≡ leng
 rest-length c = length-drop (length c / 256 * 256) c ∙ omega arith
 
 module _ (g : Generic) (s : Site) (t : Task) (c room : List ℕ) (gf : GenericFits g) (sf : SiteFits s) (tf : TaskFits t) (bytes : Bytes c) where
-  our-fits : FitsAll (ourBlocks g s t c)
+  pub our-fits : FitsAll (ourBlocks g s t c)
   our-fits = (gf, (sf, (tf, join-fits (firstCuts (length c / 256) c) (restOf (drop (length c / 256 * 256) c)) (cuts-fit c bytes (length c / 256)) (rest-fits c bytes (drop (length c / 256 * 256) c)))))
 
   our-roomless : AllRoomless (ourBlocks g s t c)

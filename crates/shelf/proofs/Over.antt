@@ -157,7 +157,7 @@ radial-is o r a =
     ap₂ (radialFrom r) (counted-is (o .walk .count .whole) (omega arith)) (counted-is (o .walk .count .«in_cut») (omega arith))
 
 module _ (c f : List ℕ) (at : ℕ) (bytes : Bytes f) (o : Outcome) where
-  blocks-fit-all : Agrees (o .walk) (o .room) → FitsAll (oldBlocks f at (o .walk))
+  pub blocks-fit-all : Agrees (o .walk) (o .room) → FitsAll (oldBlocks f at (o .walk))
   blocks-fit-all a =
       let s = small (writtenIn o) (o .walk) (a .stops) in
       let n = s .whole in

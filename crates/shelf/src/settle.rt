@@ -171,11 +171,7 @@ fn settle_moment(p: Put, cuts: &[u8], room: &[u8], q: Quantity, o: OldRadial) ->
         return p;
     }
     let m = headers::moment_from(q, o.resolution, n);
-    next_data(
-        next_moment(p, cuts, room, m),
-        room,
-        2 * (n as usize),
-    )
+    next_data(next_moment(p, cuts, room, m), room, 2 * (n as usize))
 }
 
 fn settle_moments(p: Put, cuts: &[u8], room: &[u8], o: OldRadial) -> Put
