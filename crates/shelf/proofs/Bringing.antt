@@ -104,7 +104,7 @@ cuts-early (suc k) c = join-early (firstCuts k c) (cut (cutAt c (k * cutSize)) �
 
 -- ---- the radials, where all are taken
 
-module _ (c f : List ℕ) (bytes : Bytes f) (o : Outcome) (h : Standing c o) (none : o .walk .count .whole ≡ 0) where
+module _ (c f : List ℕ) (bytes : Bytes f) (o : Outcome) (h : Standing c o) where
   stands : (k : ℕ) → takeFirst k f o .answer ≡ Taken → Standing c (takeFirst k f o)
   stands k t = radials c f bytes o (λ e. h) k .standing t
 
@@ -158,52 +158,53 @@ module _ (c f : List ℕ) (bytes : Bytes f) (o : Outcome) (h : Standing c o) (no
         retold q (oldRadial f at (q .walk)) (momentsOf (oldAt f at) f at) (blocks-fit-all c f at bytes q a .0)
         (pairs-fit (oldAt f at) f at (old-fits f at bytes)) (sym (count-is (oldAt f at) f at)) (was .all)
 
-  -- so there are as many whole radials as are taken over
+-- so there are as many whole radials as are taken over, where there was none before
+module _ (c f : List ℕ) (bytes : Bytes f) (o : Outcome) (h : Standing c o) (none : o .walk .count .whole ≡ 0) where
   counted : (k : ℕ) → takeFirst k f o .answer ≡ Taken → takeFirst k f o .walk .count .whole ≡ k
   unfolding takeFirst radialFrom
   counted zero t = none
   counted (suc k) t =
-      let g = was k t in
+      let g = was c f bytes o h k t in
       let n = counted k (g .before) in
-      ap (λ (x : Outcome). x .walk .count .whole) (g .is) ∙ told-again k t .whole ∙ omega arith
+      ap (λ (x : Outcome). x .walk .count .whole) (g .is) ∙ told-again c f bytes o h k t .whole ∙ omega arith
 
   pub whole-are : (k : ℕ) → takeFirst k f o .answer ≡ Taken → wholeIn (takeFirst k f o) ≡ k
   whole-are k t =
       sym (counted-all (writtenIn (takeFirst k f o)))
-      ∙ ap (λ (w : Walk). w .count .whole) (stands k t .agree .stops)
+      ∙ ap (λ (w : Walk). w .count .whole) (stands c f bytes o h k t .agree .stops)
       ∙ counted k t
 
   -- each of them, in all that is written
   module _ (k n : ℕ) (l : k < n) (t : takeFirst n f o .answer ≡ Taken) where
-    here : Begins (suc k) n
-    here = begins (suc k) n (omega arith) t
+    here : Begins c f bytes o h (suc k) n
+    here = begins c f bytes o h (suc k) n (omega arith) t
 
-    taken-here : over k .answer ≡ Taken
+    taken-here : over c f bytes o h k .answer ≡ Taken
     unfolding takeFirst
     taken-here = here .taken
 
     volume-is : writtenIn (takeFirst n f o) ≡ writtenIn (putAll (oldBlocks f (radialPlace k) (takeFirst k f o .walk)) (takeFirst k f o)) ++ here .more
     unfolding takeFirst
-    volume-is = here .is ∙ ap (λ (x : Outcome). writtenIn x ++ here .more) (was k taken-here .is)
+    volume-is = here .is ∙ ap (λ (x : Outcome). writtenIn x ++ here .more) (was c f bytes o h k taken-here .is)
 
     number-is : suc (wholeIn (takeFirst k f o)) ≡ suc k
-    number-is = ap suc (whole-are k (was k taken-here .before))
+    number-is = ap suc (whole-are k (was c f bytes o h k taken-here .before))
 
     header-is : radialOfFile (writtenIn (takeFirst n f o)) (suc k) ≡ record { number = 0; place = takeFirst k f o .walk .at; header = oldRadial f (radialPlace k) (takeFirst k f o .walk) }
-    header-is = ap₂ radialOfFile volume-is (sym number-is) ∙ told-again k taken-here .header (here .more)
+    header-is = ap₂ radialOfFile volume-is (sym number-is) ∙ told-again c f bytes o h k taken-here .header (here .more)
 
     gate-is : (y i : ℕ) → gateAsked (writtenIn (takeFirst n f o)) (suc k) y i ≡ gateAmong (momentsOf (oldAt f (radialPlace k)) f (radialPlace k)) y i
-    gate-is y i = ap₂ (λ (v : List ℕ) (m : ℕ). gateAsked v m y i) volume-is (sym number-is) ∙ told-again k taken-here .gate (here .more) y i
+    gate-is y i = ap₂ (λ (v : List ℕ) (m : ℕ). gateAsked v m y i) volume-is (sym number-is) ∙ told-again c f bytes o h k taken-here .gate (here .more) y i
 
     pub kept-here : Radial-kept f k (writtenIn (takeFirst n f o))
     unfolding radialFrom
     kept-here =
         let at = radialPlace k in
-        let c0 = counted k (was k taken-here .before) in
+        let c0 = counted k (was c f bytes o h k taken-here .before) in
         record {
           there = ap (λ (x : RadialAnswer). x .number) header-is;
           sequence = ap (λ (x : RadialAnswer). x .header .sequence) header-is ∙ omega arith;
-          header = subst⁻¹ (λ (x : RadialAnswer). HeaderKeeps (oldAt f at) (x .header)) header-is (header-keeps (oldAt f at) _ _ (old-fits f at bytes) (was k taken-here .fine));
+          header = subst⁻¹ (λ (x : RadialAnswer). HeaderKeeps (oldAt f at) (x .header)) header-is (header-keeps (oldAt f at) _ _ (old-fits f at bytes) (was c f bytes o h k taken-here .fine));
           gate = λ q i h. subst⁻¹ (λ (x : Telling Values). Means x (meaning q (oldAt f at .resolution) (oldCode q f at i))) (gate-is (typeOf q) i) (gate-means f at bytes q i h);
           no-gate = λ q i some h. gate-is (typeOf q) i ∙ no-gate f at bytes q i some h;
           left-out = λ q i e. gate-is (typeOf q) i ∙ nowhere (oldAt f at) f at (typeOf q) i (λ p. ⊎-elim inl (λ z. inr (ap (λ (x : Quantity). gatesOf x (oldAt f at)) z ∙ e)) (types-apart p q));
@@ -267,7 +268,7 @@ module _ (g : Generic) (s : Site) (t : Task) (c f room : List ℕ) (gf : Generic
   unfolding takeFirst
   brought =
       let p = put-as c f room fb o stood (record { blocks = ourBlocks g s t c; fit = our-fits g s t c room gf sf tf cb; is = refl }) n taken in
-      let b = begins c f fb o stood none-whole 0 n (omega arith) taken in
+      let b = begins c f fb o stood 0 n (omega arith) taken in
       let agree = radials c f fb o (λ e. stood) n .standing taken .agree in
       let a = all-added (p .blocks) (p .fit) (beginning room) (start room) (ap (λ (x : Outcome). x .answer) (sym (p .is)) ∙ taken) in
       let bs = run bytesOf (p .blocks) in

@@ -1,8 +1,11 @@
 pub mod Walks
 pub mod Unless
+pub mod Laying
 pub mod Settling
 pub mod Ours
 pub mod Over
 pub mod Imported
 pub mod Kept
 pub mod Bringing
+pub mod Ordering
+pub mod Growing

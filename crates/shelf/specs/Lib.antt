@@ -1,3 +1,5 @@
 pub mod Import
 pub mod Settled
 pub mod Brought
+pub mod Order
+pub mod Growth

@@ -46,7 +46,14 @@ pub(crate) fn lay_ours(g: Generic, s: Site, t: Task, cuts: &[u8], room: &mut [u8
 }
 
 // A moment of the old radial at a place, and the place behind it in the room. Our codes go straight into the room.
-fn lay_moment(room: &mut [u8], at: usize, old: &[u8], from: usize, o: OldRadial, q: Quantity) -> usize
+fn lay_moment(
+    room: &mut [u8],
+    at: usize,
+    old: &[u8],
+    from: usize,
+    o: OldRadial,
+    q: Quantity,
+) -> usize
     requires { ⌜ (at + momentLength (gatesOf q o) ≤ length (now room)) × (from + placeOf q o + gatesOf q o ≤ length (now old)) ⌝ }
     ensures { λ r. ⌜ (r ≡ at + momentLength (gatesOf q o)) × (now (room .exit) ≡ patch (now (room .entry)) at (run bytesOf (momentBlocks (momentOf q o (now (old .entry)) from)))) ⌝ }
 {
@@ -84,11 +91,7 @@ fn lay(w: Walk, old: &[u8], from: usize, o: OldRadial, room: &mut [u8])
 {
     let at = w.at;
     let r = radial_next(o, w);
-    if le::has(
-        room.len(),
-        at,
-        Radial::SIZE + r.length_of_data as usize,
-    ) {
+    if le::has(room.len(), at, Radial::SIZE + r.length_of_data as usize) {
         lay_here(room, at, old, from, o, r);
     }
 }
@@ -108,10 +111,10 @@ fn lay_over(w: Walk, cuts: &[u8], old: &[u8], from: usize, room: &mut [u8]) -> W
     match answer {
         Answer::Taken => {
             lay(w, old, from, o, room);
+            q.walk
         }
-        Answer::Refused(_, _) => {}
+        Answer::Refused(_, _) => q.walk,
     }
-    q.walk
 }
 
 // Every radial of the old file.
