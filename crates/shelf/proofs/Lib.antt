@@ -9,3 +9,4 @@ pub mod Kept
 pub mod Bringing
 pub mod Ordering
 pub mod Growing
+pub mod Result
