@@ -7,7 +7,6 @@
 mod gates_told;
 mod telling;
 
-ghost use mathlib.Core.Path.{_≡_};
 ghost use Prim.Native.Nat.{_<_};
 ghost use lib.ListN.{length};
 use crate::telling::print_refused;
@@ -87,14 +86,23 @@ fn each(input: &[u8], room: &mut [u8]) {
     }
 }
 
-fn main() {
-    // one byte more than the most that is taken
-    let mut buf = [0u8; 2163121];
-    let n = io::read_full(STDIN_FILENO, &mut buf);
+// Each array is made where it is lent, and not by a function that hands it over: that would need the stack for it twice.
+fn each_in_room(input: &[u8]) {
     let mut room = [0u8; 4169072];
-    if n < 2163121 {
-        each(first(&buf, n), &mut room);
+    each(input, &mut room);
+}
+
+fn run(buf: &mut [u8]) {
+    let n = io::read_full(STDIN_FILENO, buf);
+    if n < buf.len() {
+        each_in_room(first(buf, n));
     } else {
         word(b"too long\n");
     }
+}
+
+fn main() {
+    // one byte more than the most that is taken
+    let mut buf = [0u8; 2163121];
+    run(&mut buf);
 }
