@@ -1,3 +1,4 @@
+-- The part of the room that is lent has as many bytes as was asked for. Assumes nothing.
 use mathlib.Core.Path.{sym}
 use native.Mathlib.Omega.{arith}
 use borrow.Author.Needs.{needs}

@@ -1,3 +1,4 @@
+-- The array that is lent has as many bytes as its type says. Assumes nothing.
 use mathlib.Core.Path.{sym}
 use Prim.Native.Nat.{ℕ}
 use borrow.Author.Needs.{needs}
