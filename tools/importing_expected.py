@@ -7,17 +7,24 @@
     python3 tools/importing_expected.py shelf.records > samples/shelf.records       and so shelf.old
 
 Standard input is one case after the other: how many bytes our records have, how many the old file has, how long the
-room is, which output is wanted (0 or 1), then our records (generic, site, task and cuts, one after the other) and the
+room is, which output is wanted (0, 1 or 2), then our records (generic, site, task and cuts, one after the other) and the
 old file. Every number has four bytes, little-endian. The room is filled with AA before, and its checksum covers all
 of it. A line for each case:
 
     refused NUMBER PLACE CHECKSUM
     taken BYTES complete CHECKSUM       or open
     no records                          where generic, site and task are not all there
+    too long                            where the room would be longer than the program's own
+    cut short                           where the input ends in the case
 
 Where output 1 is wanted, for each radial and each of types 2, 3 and 4 another line, with the gates of the volume that
 was written: `0` or `1` where it has no value, else `5 DIFFERENCE/SCALE`, the difference that of code and offset; 31
 where the radial has no such moment.
+
+Output 2 is for the command line, and has no checksum:
+
+    refused NUMBER PLACE                and a second line that says it in words
+    taken BYTES complete                or open MISSING; then the volume's bytes as they are, with no line behind them
 
 Each case is given with what is to be told of it, by hand, and the import written from the text has to tell the same.
 A volume that was taken has to be the one that volumes.py builds of the same radials, with the times counted by the
@@ -38,12 +45,13 @@ import volumes
 from volumes import cut, mask, moment, radial
 
 FILLED = 0xAA
-LONGEST_ROOM = 2097152
+LONGEST_ROOM = 4169072                  # of our records with 256 cuts, and 862 old radials of the most gates
 ALL = 2**64 - 1                         # of a mask
-COMPLETE, OPEN, NO_RECORDS = 'complete', 'open', 'no records'
+COMPLETE, OPEN = 'complete', 'open'
+NO_RECORDS, TOO_LONG, CUT_SHORT = 'no records', 'too long', 'cut short'
 CUT_1, CUT_2, CUT_3 = 416, 672, 928     # where a cut's block stands; the first radial's where there is no such cut
 
-# told is one of these three, or a refusal; old are the bytes of the old file, radials what they were made of
+# told is one of these five, or a refusal; old are the bytes of the old file, radials what they were made of
 Case = namedtuple('Case', 'name records old radials room output told')
 # An old radial; counts are the gate counts where these are not those of the codes
 Old = namedtuple('Old', 'state number z v w resolution day ms azimuth elevation mark counts')
@@ -178,6 +186,7 @@ def whole_shelf():
     yield case('the shelf', records, radials, COMPLETE, output=1)
     yield case('the first cut of the shelf', records, radials[:3], OPEN)
     yield case('the first radial of the shelf, in the longest room', records, radials[:1], OPEN, room=LONGEST_ROOM)
+    yield case('in a room of one byte more', records, radials[:1], TOO_LONG, room=LONGEST_ROOM + 1)
 
 
 # --------------------------------------------------------------------------
@@ -439,8 +448,38 @@ def gates():
     yield first('gates wanted of a file that is refused', no(51, 0), old(3, mark=2), output=1)
 
 
+# --------------------------------------------------------------------------
+# The command line's output, and the input's end.
+
+WORDS = {
+    50: 'the length of the old file is not a positive multiple of 2432',
+    51: 'the radar mark of the old radial there is not 1',
+    62: 'the time of the old radial there: day 0, milliseconds not under 86,400,000 or seconds over 2,147,483,647',
+    52: 'a gate count of the old radial there is too large, or all are 0',
+    53: 'the resolution of the old radial there is not 2 or 4'}
+OTHER_WORDS = 'our writer refuses a block of the new volume there'
+
+
+def command_line():
+    records, radials = samples()['shelf.records'], shelf()
+    yield case('the bytes of the shelf', records, radials, COMPLETE, output=2)
+    yield case('the bytes of its first cut', records, radials[:3], OPEN, output=2)
+    yield case('no records, for the command line', records[:415], radials, NO_RECORDS, output=2)
+    yield case('50 in words', ONE, [], no(50), room=900, output=2, old_file=b'\1')
+    for number, fault in (51, {'mark': 2}), (62, {'day': 0}), (52, {'counts': (0, 0)}), (53, {'resolution': 3}):
+        yield case(f'{number} in words', ONE, [old(3), old(1, **fault)], no(number, 2432), output=2)
+    yield first('10 in words', no(10, CUT_2), old(1), output=2)
+    yield first('1 in words', no(1, 0), old(3), changed(ONE, ('generic', 'magic', 0)), output=2)
+
+
+def cut_short():
+    """The last, since nothing is read behind it: the input lacks its last byte."""
+    yield first('a case that is cut short', CUT_SHORT, old(3))
+
+
 GROUPS = [whole_shelf, old_lengths, no_records, our_fields, cut_counts, marks, times, gate_counts, resolutions, own_order,
-          states, scan_types, elevation_numbers, angles, masks, rooms, later_radials, after_the_end, several_cuts, gates]
+          states, scan_types, elevation_numbers, angles, masks, rooms, later_radials, after_the_end, several_cuts, gates,
+          command_line, cut_short]
 
 
 # --------------------------------------------------------------------------
@@ -536,19 +575,32 @@ def gate_lines(volume):
             yield f'{n} {t}: ' + (' '.join(map(gate_words, r.gates(n, t))) if there else '31')
 
 
+def unread(c):
+    """What is printed of a case that is not looked at; None of any other."""
+    if c.told == CUT_SHORT:
+        return CUT_SHORT
+    if len(c.records) < 416:
+        return NO_RECORDS
+    return TOO_LONG if c.room > LONGEST_ROOM else None
+
+
 def lines(c):
-    """What is printed of a case, which has to be what is given with it."""
+    """What is printed of a case, which has to be what is given with it. A volume's bytes stand for no line."""
+    if unread(c):
+        assert c.told == unread(c)
+        return [c.told]
     r = c.records
-    if len(r) < 416:
-        assert c.told == NO_RECORDS
-        return [NO_RECORDS]
     told = importing.import_old(r[:32], r[32:160], r[160:416], r[416:], c.old, c.room)
     if told[0] == 'refused':
         assert told == c.told, told
+        if c.output == 2:
+            return ['refused {} {}'.format(*told[1:]), WORDS.get(told[1], OTHER_WORDS)]
         return ['refused {} {} {}'.format(*told[1:], checksum(bytes([FILLED]) * c.room))]
     _, volume, verdict = told
     assert c.told in (COMPLETE, OPEN), told[2]
     check_taken(c, volume, verdict)
+    if c.output == 2:
+        return [f'taken {len(volume)} ' + (COMPLETE if verdict == COMPLETE else 'open {1}'.format(*verdict)), volume]
     sum_behind = checksum(volume + bytes([FILLED]) * (c.room - len(volume)))
     first_line = f'taken {len(volume)} {c.told} {sum_behind}'
     return [first_line, *gate_lines(volume)] if c.output else [first_line]
@@ -558,7 +610,6 @@ def checked():
     """(case, its lines) of every case."""
     met = set()
     for c in itertools.chain.from_iterable(group() for group in GROUPS):
-        assert c.room <= LONGEST_ROOM
         try:
             yield c, lines(c)
         except AssertionError as wrong:
@@ -566,11 +617,17 @@ def checked():
         met.add(c.told[1] if c.told[0] == 'refused' else c.told)
     # all that an import can tell. It goes on from what it wrote, so there is no 37, and what it makes of a radial keeps
     # 11, 15, 17 to 19, 21, 22, 24 and 35; it counts the radials itself, and where there are too many 40 is ahead of 12 and 13
-    assert met == {*range(1, 11), 14, 16, 20, 23, 25, 33, 34, 40, *range(50, 54), 62, COMPLETE, OPEN, NO_RECORDS}
+    assert met == {*range(1, 11), 14, 16, 20, 23, 25, 33, 34, 40, *range(50, 54), 62,
+                   COMPLETE, OPEN, NO_RECORDS, TOO_LONG, CUT_SHORT}
 
 
 def case_bytes(c):
-    return struct.pack('<4I', len(c.records), len(c.old), c.room, c.output) + c.records + c.old
+    out = struct.pack('<4I', len(c.records), len(c.old), c.room, c.output) + c.records + c.old
+    return out[:-1] if c.told == CUT_SHORT else out
+
+
+def printed(told):
+    return b''.join(line if isinstance(line, bytes) else line.encode() + b'\n' for line in told)
 
 
 def main(args):
@@ -579,10 +636,10 @@ def main(args):
             sys.stdout.buffer.write(case_bytes(c))
     elif args == ['stdout']:
         for _, told in checked():
-            print(*told, sep='\n')
+            sys.stdout.buffer.write(printed(told))
     elif args == ['names']:
         for number, (c, told) in enumerate(checked(), 1):
-            print(f'{number}: {c.name}', end='\n' * len(told))      # nothing beside the gates
+            print(f'{number}: {c.name}', end='\n' * printed(told).count(b'\n'))      # nothing beside the gates
     elif len(args) == 1 and args[0] in samples():
         sys.stdout.buffer.write(samples()[args[0]])
     else:

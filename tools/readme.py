@@ -4,14 +4,15 @@
     python3 tools/readme.py
 
 Each indented block of README.md has to stand whole in a source, or line for line, in order, in a program's
-stored output or among the verdicts that the reference reader gives of the samples; but for the block of
-commands, which starts with `./knot`.
+stored output, among the verdicts that the reference reader gives of the samples, or in the listing of the old
+shelf as the reference imports it; but for the block of commands, which starts with `./knot`.
 """
 import glob
 import re
 import sys
 
 sys.dont_write_bytecode = True
+import importing
 import reference as ref
 
 
@@ -26,19 +27,31 @@ def in_order(block, lines):
     return all(line in rest for line in block.splitlines())
 
 
+def sample(name):
+    with open(f'samples/{name}', 'rb') as file:
+        return file.read()
+
+
 def verdict(name):
-    with open(f'samples/{name}.vol', 'rb') as sample:
-        return ref.listing(sample.read()).splitlines()[0]
+    return ref.listing(sample(f'{name}.vol')).splitlines()[0]
+
+
+def shelf():
+    """The listing of the old shelf, once it is brought in."""
+    records, old = sample('shelf.records'), sample('shelf.old')
+    told = importing.import_old(records[:32], records[32:160], records[160:416], records[416:], old, 2 * len(old))
+    return ref.listing(told[1]).splitlines()
 
 
 def main():
-    def read(path):
-        with open(path, encoding='utf-8') as file:
+    def read(path, errors='strict'):
+        with open(path, encoding='utf-8', errors=errors) as file:
             return file.read()
 
     sources = [read(path) for path in glob.glob('crates/*/src/*.rt')]
-    outputs = [read(path).splitlines() for path in glob.glob('crates/*/stdout')]
+    outputs = [read(path, 'replace').splitlines() for path in glob.glob('crates/*/stdout')]     # one has a volume's bytes
     outputs.append([verdict(name) for name in ('short', 'cloud', 'layers')])
+    outputs.append(shelf())
     strange = [block for block in blocks(read('README.md')) if not block.startswith('./knot')
                and not any(block in source for source in sources)
                and not any(in_order(block, lines) for lines in outputs)]
