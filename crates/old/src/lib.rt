@@ -2,6 +2,6 @@
 pub mod angle;
 pub mod clock;
 pub mod codes;
+pub mod file;
 pub mod headers;
 pub mod record;
-pub mod shelf;

@@ -23,9 +23,9 @@ use generic::Generic;
 use moment::Moment;
 use old::codes;
 use old::codes::Quantity;
+use old::file;
 use old::headers;
 use old::record::OldRadial;
-use old::shelf;
 use radial::Radial;
 use site::Site;
 use task::Task;
@@ -121,7 +121,7 @@ fn lay_over(w: Walk, cuts: &[u8], old: &[u8], from: usize, room: &mut [u8]) -> W
 pub(crate) fn lay_all(first: Walk, cuts: &[u8], old: &[u8], room: &mut [u8])
     ensures { λ _. ⌜ now (room .exit) ≡ layFirst (radialsIn (length (now (old .entry)))) (now (cuts .entry)) (now (old .entry)) (record { walk = first; room = now (room .entry) }) .room ⌝ }
 {
-    let n = shelf::radials_in(old.len());
+    let n = file::radials_in(old.len());
     let mut w = first;
     let mut k = 0;
     while k < n {

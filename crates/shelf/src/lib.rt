@@ -12,7 +12,7 @@ use crate::settle::refused;
 use crate::settle::settle_all;
 use crate::settle::settle_ours;
 use generic::Generic;
-use old::shelf;
+use old::file;
 use site::Site;
 use task::Task;
 use walk::due::Walk;
@@ -24,7 +24,7 @@ use writer::order::Put;
 pub fn import(g: Generic, s: Site, t: Task, cuts: &[u8], old: &[u8], room: &mut [u8]) -> Put
     ensures { λ p. ⌜ Puts (importOf g s t (now (cuts .entry)) (now (old .entry)) (now (room .entry))) p (now (room .exit)) ⌝ }
 {
-    if !shelf::shelf_ok(old.len()) {
+    if !file::shelf_ok(old.len()) {
         return refused(50, 0, Walk::begin());
     }
     let first = settle_ours(g, s, t, cuts, room);

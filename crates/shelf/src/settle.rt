@@ -15,9 +15,9 @@ use cut::Cut;
 use generic::Generic;
 use moment::Moment;
 use old::codes::Quantity;
+use old::file;
 use old::headers;
 use old::record::OldRadial;
-use old::shelf;
 use radial::Radial;
 use rules::check::Check;
 use site::Site;
@@ -206,7 +206,7 @@ pub(crate) fn settle_over(p: Put, cuts: &[u8], room: &[u8], o: OldRadial, at: us
 pub(crate) fn settle_all(p: Put, cuts: &[u8], old: &[u8], room: &[u8]) -> Put
     ensures { λ q. ⌜ q ≡ settleFirst (radialsIn (length (now (old .entry)))) (now (cuts .entry)) (now (old .entry)) (length (now (room .entry))) p ⌝ }
 {
-    let n = shelf::radials_in(old.len());
+    let n = file::radials_in(old.len());
     let mut q = p;
     let mut k = 0;
     while k < n {

@@ -1,8 +1,8 @@
 use native.Mathlib.Omega.{arith}
 use borrow.Author.Tests.{le-leb, lt-leb}
 use Rattle.old.specs.Shelf.{shelfOk}
-use Rattle.old.proofs.shelf.shelf_ok.Statement.{statement}
-use Rattle.old.proofs.shelf.shelf_ok.Tie as tie
+use Rattle.old.proofs.file.shelf_ok.Statement.{statement}
+use Rattle.old.proofs.file.shelf_ok.Tie as tie
 
 returns : tie.Need-returns
 unfolding shelfOk
