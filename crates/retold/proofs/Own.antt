@@ -18,17 +18,16 @@ use Rattle.moment.proofs.Trips as moment-trip
 use Rattle.radial.specs.declared.Radial.{Radial}
 use Rattle.radial.specs.Radial.{radialOf, radialAt, radialBytes, RadialFits}
 use Rattle.radial.proofs.Trips as radial-trip
-use Rattle.gates.specs.Gates.{Values}
-use Rattle.gates.specs.Telling.{Telling, refused}
+use Rattle.gates.specs.Telling.{refused, answered}
 use Rattle.moments.specs.declared.Found.{Found}
 use Rattle.moments.specs.declared.Found.the-variants.{At, Nowhere}
 use Rattle.moments.specs.Moments.{after, momentsFrom, momentsOf, findIn, dataAt}
 use Rattle.reading.specs.declared.Stretch.{Stretch}
-use Rattle.ask.specs.Answers.{gateIn, gateTold}
+use Rattle.ask.specs.Answers.{gateIn, gateTold, momentTold, toldMoment}
 use Rattle.ask.specs.Places.{momentIn, inStretch}
 use Rattle.writer.specs.Block.{bytesOf}
 use Rattle.reading.specs.Reading as reading
-use Rattle.retold.specs.Retold.{Pair, PairsFit, momentBlocks, radialBlocks, gateAmong}
+use Rattle.retold.specs.Retold.{Pair, PairsFit, momentBlocks, radialBlocks, among, momentAmong, gateAmong}
 use Rattle.retold.proofs.Whole.{PairsLong}
 
 -- ---- a part that stands behind others
@@ -59,16 +58,11 @@ moment-there : (pre : List ℕ) (h : Moment) (post : List ℕ) → MomentFits h 
 unfolding momentAt
 moment-there pre h post fits = ap momentOf (part-there pre (momentBytes h) post 32 (moment-trip.length-is h fits)) ∙ moment-trip.there-and-back h fits
 
--- ---- the gate of a moment that was found
+-- ---- what is said of a moment that was found
 
-gateFound : List ℕ → Found → ℕ → Telling Values
-gateFound b (At p) i = gateIn (momentAt b p) (dataAt b p) i
-gateFound b Nowhere i = refused 31 0
-
-gate-found : (f : List ℕ) (s : Stretch) (x : Found) (i : ℕ) → gateTold f (inStretch s x) i ≡ gateFound (reading.bytesOf f s) x i
-unfolding gateFound gateTold inStretch
-gate-found f s (At p) i = refl
-gate-found f s Nowhere i = refl
+said : {X : Type 0} → (Moment → List ℕ → X) → X → List ℕ → Found → X
+said say none b (At p) = say (momentAt b p) (dataAt b p)
+said say none b Nowhere = none
 
 -- one moment of those from a place on, with the others behind it
 module _ (pre : List ℕ) (p : Pair) (post : List ℕ) (fits : MomentFits (p .header)) (long : length (p .bytes) ≡ p .header .length) where
@@ -116,47 +110,70 @@ module _ (pre : List ℕ) (p : Pair) (post : List ℕ) (fits : MomentFits (p .he
       ap (λ (x : Bool). cond x (length pre ∷ momentsFrom k whole (after whole (length pre))) []) within
       ∙ ap (λ (n : ℕ). length pre ∷ momentsFrom k whole n) next-is
 
-  gate-if : (x : Bool) (y : Found) (i : ℕ) → gateFound whole (cond x (At (length pre)) y) i ≡ cond x (gateIn (p .header) (p .bytes) i) (gateFound whole y i)
-  unfolding gateFound
-  gate-if true y i = ap₂ (λ (h : Moment) (d : List ℕ). gateIn h d i) header-is data-is
-  gate-if false y i = refl
+  said-if : {X : Type 0} (say : Moment → List ℕ → X) (none : X) (x : Bool) (y : Found)
+      → said say none whole (cond x (At (length pre)) y) ≡ cond x (say (p .header) (p .bytes)) (said say none whole y)
+  unfolding said
+  said-if say none true y = ap₂ say header-is data-is
+  said-if say none false y = refl
 
-  -- and its gates are answered, or those of the others
-  gate-first : (t : ℕ) (l : List ℕ) (i : ℕ)
-      → gateFound whole (findIn whole t (length pre ∷ l)) i ≡ cond (eqb (p .header .«data_type») t) (gateIn (p .header) (p .bytes) i) (gateFound whole (findIn whole t l) i)
+  -- and it is what is said of, or one of the others
+  said-first : {X : Type 0} (say : Moment → List ℕ → X) (none : X) (t : ℕ) (l : List ℕ)
+      → said say none whole (findIn whole t (length pre ∷ l)) ≡ cond (eqb (p .header .«data_type») t) (say (p .header) (p .bytes)) (said say none whole (findIn whole t l))
   unfolding findIn
-  gate-first t l i =
-      ap (λ (h : Moment). gateFound whole (cond (eqb (h .«data_type») t) (At (length pre)) (findIn whole t l)) i) header-is
-      ∙ gate-if (eqb (p .header .«data_type») t) (findIn whole t l) i
+  said-first say none t l =
+      ap (λ (h : Moment). said say none whole (cond (eqb (h .«data_type») t) (At (length pre)) (findIn whole t l))) header-is
+      ∙ said-if say none (eqb (p .header .«data_type») t) (findIn whole t l)
 
 -- ---- all of them
 
--- the gates of the moments behind some bytes
-gates-from : (ps : List Pair) → PairsFit ps → PairsLong ps → (pre : List ℕ) (t i : ℕ)
-    → gateFound (pre ++ run bytesOf (momentBlocks ps)) (findIn (pre ++ run bytesOf (momentBlocks ps)) t (momentsFrom (length ps) (pre ++ run bytesOf (momentBlocks ps)) (length pre))) i
-    ≡ gateAmong ps t i
-unfolding momentBlocks run gateAmong gateFound findIn momentsFrom whole
-gates-from [] fits long pre t i = refl
-gates-from (p ∷ ps) fits long pre t i =
-    let post = run bytesOf (momentBlocks ps) in
-    let b = whole pre p post (fits .0) (long .0) in
-    let next = pre ++ momentBytes (p .header) ++ p .bytes in
-    let others = momentsFrom (length ps) b (length next) in
-    let others-told : gateFound b (findIn b t others) i ≡ gateAmong ps t i =
-    ap (λ (l : List ℕ). gateFound l (findIn l t (momentsFrom (length ps) l (length next))) i) (by-data pre p post (fits .0) (long .0)) ∙ gates-from ps (fits .1) (long .1) next t i in
-    ap (λ (l : List ℕ). gateFound b (findIn b t l) i) (moments-more pre p post (fits .0) (long .0) (length ps))
-    ∙ gate-first pre p post (fits .0) (long .0) t others i
-    ∙ ap (cond (eqb (p .header .«data_type») t) (gateIn (p .header) (p .bytes) i)) others-told
+module _ {X : Type 0} (say : Moment → List ℕ → X) (none : X) where
+  -- the moments behind some bytes
+  said-from : (ps : List Pair) → PairsFit ps → PairsLong ps → (pre : List ℕ) (t : ℕ)
+      → said say none (pre ++ run bytesOf (momentBlocks ps)) (findIn (pre ++ run bytesOf (momentBlocks ps)) t (momentsFrom (length ps) (pre ++ run bytesOf (momentBlocks ps)) (length pre)))
+      ≡ among say none ps t
+  unfolding momentBlocks run among said findIn momentsFrom whole
+  said-from [] fits long pre t = refl
+  said-from (p ∷ ps) fits long pre t =
+      let post = run bytesOf (momentBlocks ps) in
+      let b = whole pre p post (fits .0) (long .0) in
+      let next = pre ++ momentBytes (p .header) ++ p .bytes in
+      let others = momentsFrom (length ps) b (length next) in
+      let others-told : said say none b (findIn b t others) ≡ among say none ps t =
+      ap (λ (l : List ℕ). said say none l (findIn l t (momentsFrom (length ps) l (length next)))) (by-data pre p post (fits .0) (long .0)) ∙ said-from ps (fits .1) (long .1) next t in
+      ap (λ (l : List ℕ). said say none b (findIn b t l)) (moments-more pre p post (fits .0) (long .0) (length ps))
+      ∙ said-first pre p post (fits .0) (long .0) say none t others
+      ∙ ap (cond (eqb (p .header .«data_type») t) (say (p .header) (p .bytes))) others-told
 
--- the gates of a radial whose own bytes are those of its blocks
-pub gates-told : (r : Radial) (ps : List Pair) → RadialFits r → PairsFit ps → PairsLong ps → r .«moment_number» ≡ length ps
-    → (f : List ℕ) (s : Stretch) → reading.bytesOf f s ≡ run bytesOf (radialBlocks r ps) → (t i : ℕ) → gateTold f (momentIn f t s) i ≡ gateAmong ps t i
-unfolding run
-gates-told r ps fits pairs long k f s own t i =
-    let post = run bytesOf (momentBlocks ps) in
-    let b = radialBytes r ++ post in
-    let number : radialAt b 0 .«moment_number» ≡ length ps = ap (λ (x : Radial). x .«moment_number») (header-there [] r post fits) ∙ k in
-    gate-found f s (findIn (reading.bytesOf f s) t (momentsOf (reading.bytesOf f s))) i
-    ∙ ap (λ (l : List ℕ). gateFound l (findIn l t (momentsOf l)) i) own
-    ∙ ap₂ (λ (n at : ℕ). gateFound b (findIn b t (momentsFrom n b at)) i) number (sym (radial-trip.length-is r fits))
-    ∙ gates-from ps pairs long (radialBytes r) t i
+  -- those of a radial whose own bytes are those of its blocks
+  said-own : (r : Radial) (ps : List Pair) → RadialFits r → PairsFit ps → PairsLong ps → r .«moment_number» ≡ length ps
+      → (l : List ℕ) → l ≡ run bytesOf (radialBlocks r ps) → (t : ℕ) → said say none l (findIn l t (momentsOf l)) ≡ among say none ps t
+  unfolding run
+  said-own r ps fits pairs long k l own t =
+      let post = run bytesOf (momentBlocks ps) in
+      let b = radialBytes r ++ post in
+      let number : radialAt b 0 .«moment_number» ≡ length ps = ap (λ (x : Radial). x .«moment_number») (header-there [] r post fits) ∙ k in
+      ap (λ (x : List ℕ). said say none x (findIn x t (momentsOf x))) own
+      ∙ ap₂ (λ (n at : ℕ). said say none b (findIn b t (momentsFrom n b at))) number (sym (radial-trip.length-is r fits))
+      ∙ said-from ps pairs long (radialBytes r) t
+
+module _ (r : Radial) (ps : List Pair) (fits : RadialFits r) (pairs : PairsFit ps) (long : PairsLong ps) (k : r .«moment_number» ≡ length ps)
+    (f : List ℕ) (s : Stretch) (own : reading.bytesOf f s ≡ run bytesOf (radialBlocks r ps)) where
+  gate-found : (x : Found) (i : ℕ) → gateTold f (inStretch s x) i ≡ said (λ h bytes. gateIn h bytes i) (refused 31 0) (reading.bytesOf f s) x
+  unfolding said gateTold inStretch
+  gate-found (At p) i = refl
+  gate-found Nowhere i = refl
+
+  pub gates-told : (t i : ℕ) → gateTold f (momentIn f t s) i ≡ gateAmong ps t i
+  gates-told t i =
+      gate-found (findIn (reading.bytesOf f s) t (momentsOf (reading.bytesOf f s))) i
+      ∙ said-own (λ h bytes. gateIn h bytes i) (refused 31 0) r ps fits pairs long k (reading.bytesOf f s) own t
+
+  moment-found : (x : Found) → toldMoment (momentTold f (inStretch s x)) ≡ said (λ h bytes. answered h) (refused 31 0) (reading.bytesOf f s) x
+  unfolding said momentTold inStretch
+  moment-found (At p) = refl
+  moment-found Nowhere = refl
+
+  pub moments-told : (t : ℕ) → toldMoment (momentTold f (momentIn f t s)) ≡ momentAmong ps t
+  moments-told t =
+      moment-found (findIn (reading.bytesOf f s) t (momentsOf (reading.bytesOf f s)))
+      ∙ said-own (λ h bytes. answered h) (refused 31 0) r ps fits pairs long k (reading.bytesOf f s) own t

@@ -19,7 +19,7 @@ use Rattle.reading.specs.Reading.{fuel, stop, trace, stretches, nth}
 use Rattle.reading.specs.Reading as reading
 use Rattle.reading.proofs.Counts.{counted-all}
 use Rattle.reading.proofs.Growing.{kept}
-use Rattle.ask.specs.Answers.{radialTold, radialOfFile, gateTold}
+use Rattle.ask.specs.Answers.{radialTold, radialOfFile, gateTold, momentTold, toldMoment}
 use Rattle.ask.specs.Growth.{gateAsked}
 use Rattle.ask.specs.Places.{inFound}
 use Rattle.writer.specs.declared.order.Answer.the-variants.{Taken}
@@ -28,9 +28,9 @@ use Rattle.writer.specs.Many.{putAll}
 use Rattle.writer.specs.Put.{Outcome, put}
 use Rattle.writer.proofs.Agreeing.{taken-when}
 use Rattle.retold.specs.Many.{FitsAll, writtenIn, Added}
-use Rattle.retold.specs.Retold.{Pair, PairsFit, momentBlocks, radialBlocks, gateAmong, putRadial, stretchPut, wholeIn, Retold}
+use Rattle.retold.specs.Retold.{Pair, PairsFit, momentBlocks, radialBlocks, momentAmong, gateAmong, momentAsked, putRadial, stretchPut, wholeIn, Retold}
 use Rattle.retold.proofs.Many.{First, first, all-added}
-use Rattle.retold.proofs.Own.{front-there, header-there, gates-told}
+use Rattle.retold.proofs.Own.{front-there, header-there, gates-told, moments-told}
 use Rattle.retold.proofs.Whole.{same-stretches, radial-put, radial-some, Ends, Through, through}
 
 -- the blocks of moments fit where their headers do: data always fit
@@ -137,6 +137,12 @@ module _ (o : Outcome) (r : Radial) (ps : List Pair) (fits : RadialFits r) (pair
         ap (λ (x : Found). gateTold file (inFound file x t) i) found
         ∙ gates-told r ps fits pairs (moments .long) count file (stretchPut r ps o) own-bytes t i
 
+    moment-told : (t : ℕ) → momentAsked file (suc (wholeIn o)) t ≡ momentAmong ps t
+    unfolding inFound
+    moment-told t =
+        ap (λ (x : Found). toldMoment (momentTold file (inFound file x t))) found
+        ∙ moments-told r ps fits pairs (moments .long) count file (stretchPut r ps o) own-bytes t
+
   pub retold : Retold o r ps
   unfolding file
   retold =
@@ -147,5 +153,6 @@ module _ (o : Outcome) (r : Radial) (ps : List Pair) (fits : RadialFits r) (pair
         whole = counted;
         number = numbered;
         header = header-told;
+        moment = moment-told;
         gate = gate-told;
       }

@@ -11,11 +11,12 @@ use Rattle.moment.specs.declared.Moment.{Moment}
 use Rattle.moment.specs.Moment.{MomentFits}
 use Rattle.radial.specs.declared.Radial.{Radial}
 use Rattle.gates.specs.Gates.{Values}
-use Rattle.gates.specs.Telling.{Telling, refused}
+use Rattle.gates.specs.Telling.{Telling, refused, answered}
 use Rattle.reading.specs.declared.Stretch.{Stretch}
 use Rattle.reading.specs.Reading.{stretches}
-use Rattle.ask.specs.Answers.{gateIn, radialOfFile}
+use Rattle.ask.specs.Answers.{gateIn, momentTold, radialOfFile, toldMoment}
 use Rattle.ask.specs.Growth.{gateAsked}
+use Rattle.ask.specs.Places.{whereIs}
 use Rattle.writer.specs.Agree.{Agrees}
 use Rattle.writer.specs.Block.{Block, radial, moment, «data», bytesOf}
 use Rattle.writer.specs.Many.{putAll}
@@ -40,10 +41,17 @@ momentBlocks (p ∷ ps) = moment (p .header) ∷ «data» (p .bytes) ∷ momentB
 abbrev pub radialBlocks : Radial → List Pair → List Block
 radialBlocks r ps = radial r ∷ momentBlocks ps
 
--- a gate of the first of them with type t, from 0; 31 where none has it ("What reading tells")
-unfoldable pub gateAmong : List Pair → ℕ → ℕ → Telling Values
-gateAmong [] t i = refused 31 0
-gateAmong (p ∷ ps) t i = cond (eqb (p .header .«data_type») t) (gateIn (p .header) (p .bytes) i) (gateAmong ps t i)
+-- what is said of the first of them with type t, and what where none has it ("What reading tells")
+unfoldable pub among : {X : Type 0} → (Moment → List ℕ → X) → X → List Pair → ℕ → X
+among say none [] t = none
+among say none (p ∷ ps) t = cond (eqb (p .header .«data_type») t) (say (p .header) (p .bytes)) (among say none ps t)
+
+-- its header, and a gate of it, from 0; 31 where none has the type ("What reading tells")
+abbrev pub momentAmong : List Pair → ℕ → Telling Moment
+momentAmong ps t = among (λ h bytes. answered h) (refused 31 0) ps t
+
+abbrev pub gateAmong : List Pair → ℕ → ℕ → Telling Values
+gateAmong ps t i = among (λ h bytes. gateIn h bytes i) (refused 31 0) ps t
 
 -- the radial put onto o, and the stretch of the file that it then has ("Writing", "What reading tells")
 abbrev pub putRadial : Radial → List Pair → Outcome → Outcome
@@ -56,7 +64,11 @@ stretchPut r ps o = record { start = o .walk .at; end = putRadial r ps o .walk .
 abbrev pub wholeIn : Outcome → ℕ
 wholeIn o = length (stretches (writtenIn o))
 
--- What holds once the radial is put. The last two speak of every file that begins with what is then written, so also of what is
+-- what the moment question tells ("What reading tells")
+abbrev pub momentAsked : List ℕ → ℕ → ℕ → Telling Moment
+momentAsked f n t = toldMoment (momentTold f (whereIs f n t))
+
+-- What holds once the radial is put. The last three speak of every file that begins with what is then written, so also of what is
 -- written when more blocks have been put.
 pub record Retold (o : Outcome) (r : Radial) (ps : List Pair) : Type 0 where
   -- state and room agree again, and its blocks' bytes stand behind what was written
@@ -70,5 +82,7 @@ pub record Retold (o : Outcome) (r : Radial) (ps : List Pair) : Type 0 where
   -- asked for its header, the file answers the record that was put, and the place where it was put
   pub header : (C : List ℕ)
       → radialOfFile (writtenIn (putRadial r ps o) ++ C) (suc (wholeIn o)) ≡ record { number = 0; place = o .walk .at; header = r }
-  -- asked for a gate, it answers by the moment of that type that was put
+  -- asked for a moment and for a gate, it answers by the moment of that type that was put
+  pub moment : (C : List ℕ) (t : ℕ)
+      → momentAsked (writtenIn (putRadial r ps o) ++ C) (suc (wholeIn o)) t ≡ momentAmong ps t
   pub gate : (C : List ℕ) (t i : ℕ) → gateAsked (writtenIn (putRadial r ps o) ++ C) (suc (wholeIn o)) t i ≡ gateAmong ps t i

@@ -19,7 +19,7 @@ use Rattle.task.specs.Task.{taskBytes, TaskFits}
 use Rattle.cut.specs.Cut.{cutAt, cutSize}
 use Rattle.radial.specs.declared.Radial.{Radial}
 use Rattle.gates.specs.Gates.{Values}
-use Rattle.gates.specs.Telling.{Telling}
+use Rattle.gates.specs.Telling.{Telling, refused}
 use Rattle.walk.specs.declared.due.Walk.{Walk}
 use Rattle.walk.specs.Due.{atStart}
 use Rattle.reading.specs.Reading.{stop, stretches}
@@ -27,7 +27,7 @@ use Rattle.reading.specs.Step.{takeGeneric, takeSite, takeTask, takeCut}
 use Rattle.reading.proofs.Counts.{counted-all}
 use Rattle.reading.proofs.Run.{hoped, settle-took}
 use Rattle.ask.specs.declared.answers.RadialAnswer.{RadialAnswer}
-use Rattle.ask.specs.Answers.{radialOfFile}
+use Rattle.ask.specs.Answers.{gateIn, radialOfFile}
 use Rattle.ask.specs.Growth.{gateAsked}
 use Rattle.writer.specs.declared.order.Answer.the-variants.{Taken}
 use Rattle.writer.specs.Agree.{Agrees}
@@ -37,7 +37,7 @@ use Rattle.writer.specs.Put.{Outcome, put}
 use Rattle.writer.proofs.Agreeing.{taking}
 use Rattle.writer.proofs.Runs.{start, read-back}
 use Rattle.retold.specs.Many.{FitsAll, writtenIn, Added}
-use Rattle.retold.specs.Retold.{gateAmong, wholeIn, Retold}
+use Rattle.retold.specs.Retold.{momentAmong, gateAmong, momentAsked, wholeIn, Retold}
 use Rattle.retold.proofs.Many.{put-append, first, all-added}
 use Rattle.retold.proofs.Retold.{retold}
 use Rattle.old.specs.declared.codes.Quantity.{Quantity}
@@ -46,10 +46,10 @@ use Rattle.old.specs.Headers.{gatesOf, radialFrom}
 use Rattle.old.specs.Old.{oldAt}
 use Rattle.old.specs.Shelf.{radialsIn, radialPlace}
 use Rattle.old.proofs.Fitting.{old-fits}
-use Rattle.shelf.specs.Brought.{typeOf, oldCode, Means, HeaderKeeps, Radial-kept, Brought}
+use Rattle.shelf.specs.Brought.{typeOf, oldCode, Means, HeaderKeeps, MomentKeeps, Radial-kept, Brought}
 use Rattle.shelf.specs.Import.{firstCuts, restOf, ourBlocks, momentsOf, oldRadial, oldBlocks, takeOver, takeFirst, ours, through}
 use Rattle.shelf.proofs.Imported.{Radials, radials, front-stands}
-use Rattle.shelf.proofs.Kept.{header-keeps, count-is, gate-means, no-gate, nowhere, types-apart}
+use Rattle.shelf.proofs.Kept.{header-keeps, count-is, moment-keeps, gate-means, no-gate, nowhere, types-apart}
 use Rattle.shelf.proofs.Ours.{join-fits, our-fits, ours-taken}
 use Rattle.shelf.proofs.Over.{Standing, pairs-fit, blocks-fit-all, TakenOver, over-taking, over-added}
 
@@ -196,6 +196,12 @@ module _ (c f : List ℕ) (bytes : Bytes f) (o : Outcome) (h : Standing c o) (no
     gate-is : (y i : ℕ) → gateAsked (writtenIn (takeFirst n f o)) (suc k) y i ≡ gateAmong (momentsOf (oldAt f (radialPlace k)) f (radialPlace k)) y i
     gate-is y i = ap₂ (λ (v : List ℕ) (m : ℕ). gateAsked v m y i) volume-is (sym number-is) ∙ told-again c f bytes o h k taken-here .gate (here .more) y i
 
+    moment-is : (y : ℕ) → momentAsked (writtenIn (takeFirst n f o)) (suc k) y ≡ momentAmong (momentsOf (oldAt f (radialPlace k)) f (radialPlace k)) y
+    moment-is y = ap₂ (λ (v : List ℕ) (m : ℕ). momentAsked v m y) volume-is (sym number-is) ∙ told-again c f bytes o h k taken-here .moment (here .more) y
+
+    none-is : (y i : ℕ) → ((q : Quantity) → (typeOf q ≡ y → ⊥) ⊎ (gatesOf q (oldAt f (radialPlace k)) ≡ 0)) → gateAsked (writtenIn (takeFirst n f o)) (suc k) y i ≡ refused 31 0
+    none-is y i none = gate-is y i ∙ nowhere (oldAt f (radialPlace k)) f (radialPlace k) (λ x d. gateIn x d i) (refused 31 0) y none
+
     pub kept-here : Radial-kept f k (writtenIn (takeFirst n f o))
     unfolding radialFrom
     kept-here =
@@ -205,10 +211,11 @@ module _ (c f : List ℕ) (bytes : Bytes f) (o : Outcome) (h : Standing c o) (no
           there = ap (λ (x : RadialAnswer). x .number) header-is;
           sequence = ap (λ (x : RadialAnswer). x .header .sequence) header-is ∙ omega arith;
           header = subst⁻¹ (λ (x : RadialAnswer). HeaderKeeps (oldAt f at) (x .header)) header-is (header-keeps (oldAt f at) _ _ (old-fits f at bytes) (was c f bytes o h k taken-here .fine));
+          moment = λ q some. subst⁻¹ MomentKeeps (moment-is (typeOf q)) (moment-keeps (oldAt f at) f at q some);
           gate = λ q i h. subst⁻¹ (λ (x : Telling Values). Means x (meaning q (oldAt f at .resolution) (oldCode q f at i))) (gate-is (typeOf q) i) (gate-means f at bytes q i h);
           no-gate = λ q i some h. gate-is (typeOf q) i ∙ no-gate f at bytes q i some h;
-          left-out = λ q i e. gate-is (typeOf q) i ∙ nowhere (oldAt f at) f at (typeOf q) i (λ p. ⊎-elim inl (λ z. inr (ap (λ (x : Quantity). gatesOf x (oldAt f at)) z ∙ e)) (types-apart p q));
-          no-other = λ y i other. gate-is y i ∙ nowhere (oldAt f at) f at y i (λ p. inl (other p));
+          left-out = λ q i e. none-is (typeOf q) i (λ p. ⊎-elim inl (λ z. inr (ap (λ (x : Quantity). gatesOf x (oldAt f at)) z ∙ e)) (types-apart p q));
+          no-other = λ y i other. none-is y i (λ p. inl (other p));
         }
 
 -- ---- all of it

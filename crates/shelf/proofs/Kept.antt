@@ -12,6 +12,7 @@ use lib.ListN.{length, getD}
 use Rattle.le.specs.Le.{Bytes, part, run}
 use Rattle.le.proofs.Laws.{length-part}
 use Rattle.rules.specs.declared.check.Check.the-variants.{Fine}
+use Rattle.moment.specs.declared.Moment.{Moment}
 use Rattle.gates.specs.declared.Coding.{Coding}
 use Rattle.gates.specs.Codes.{codesOf}
 use Rattle.gates.specs.Gates.{toldOf, Values, valuesOf}
@@ -19,7 +20,7 @@ use Rattle.gates.specs.Telling.{Telling, refused, answered}
 use Rattle.gates.proofs.Codes.{length-two}
 use Rattle.ask.specs.Answers as ask
 use Rattle.ask.specs.Answers.{gateIn}
-use Rattle.retold.specs.Retold.{Pair, gateAmong}
+use Rattle.retold.specs.Retold.{Pair, among, momentAmong, gateAmong}
 use Rattle.old.specs.declared.codes.Quantity.{Quantity}
 use Rattle.old.specs.declared.codes.Quantity.the-variants.{Reflectivity, Velocity, Width}
 use Rattle.old.specs.declared.record.OldRadial.{OldRadial}
@@ -33,7 +34,7 @@ use Rattle.old.proofs.Back.{codes-length, moment-kept}
 use Rattle.old.proofs.Fitting.{coding-small}
 use Rattle.old.proofs.Times.{seconds-whole, time-back}
 use Rattle.shelf.specs.Import.{momentOf, momentsOf}
-use Rattle.shelf.specs.Brought.{typeOf, oldCode, Means, HeaderKeeps}
+use Rattle.shelf.specs.Brought.{typeOf, oldCode, Means, HeaderKeeps, MomentKeeps}
 
 -- ---- the header
 
@@ -67,29 +68,52 @@ module _ (o : OldRadial) (f : List ℕ) (at : ℕ) where
   abbrev own : Quantity → Pair
   own q = record { header = momentFrom q (o .resolution) (gatesOf q o); bytes = run newBytes (part (gatesOf q o) f (at + placeOf q o)) }
 
-  -- a moment of another type is passed over
-  passed : (q : Quantity) (ps : List Pair) (t i : ℕ) → (typeOf q ≡ t → ⊥) → gateAmong (momentOf q o f at ++ ps) t i ≡ gateAmong ps t i
-  unfolding momentOf gateAmong momentFrom
-  passed q ps t i other = go (eqb (gatesOf q o) 0)
-    where
-      go : (x : Bool) → gateAmong (cond x [] (own q ∷ []) ++ ps) t i ≡ gateAmong ps t i
-      go true = refl
-      go false =
-          ap (λ (b : Bool). cond b (gateIn (own q .header) (own q .bytes) i) (gateAmong ps t i))
-          (ap (λ (n : ℕ). eqb n t) (type-is q (o .resolution)) ∙ ne-eqb (typeOf q) t other)
+  module _ {X : Type 0} (say : Moment → List ℕ → X) (none : X) where
+    -- a moment of another type is passed over
+    passed : (q : Quantity) (ps : List Pair) (t : ℕ) → (typeOf q ≡ t → ⊥) → among say none (momentOf q o f at ++ ps) t ≡ among say none ps t
+    unfolding momentOf among momentFrom
+    passed q ps t other = go (eqb (gatesOf q o) 0)
+      where
+        go : (x : Bool) → among say none (cond x [] (own q ∷ []) ++ ps) t ≡ among say none ps t
+        go true = refl
+        go false =
+            ap (λ (b : Bool). cond b (say (own q .header) (own q .bytes)) (among say none ps t))
+            (ap (λ (n : ℕ). eqb n t) (type-is q (o .resolution)) ∙ ne-eqb (typeOf q) t other)
 
-  -- one of 0 gates is not there
-  absent : (q : Quantity) (ps : List Pair) (t i : ℕ) → gatesOf q o ≡ 0 → gateAmong (momentOf q o f at ++ ps) t i ≡ gateAmong ps t i
-  unfolding momentOf
-  absent q ps t i none = ap (λ (b : Bool). gateAmong (cond b [] (own q ∷ []) ++ ps) t i) (eq-eqb (gatesOf q o) 0 none)
+    -- one of 0 gates is not there
+    absent : (q : Quantity) (ps : List Pair) (t : ℕ) → gatesOf q o ≡ 0 → among say none (momentOf q o f at ++ ps) t ≡ among say none ps t
+    unfolding momentOf
+    absent q ps t left = ap (λ (b : Bool). among say none (cond b [] (own q ∷ []) ++ ps) t) (eq-eqb (gatesOf q o) 0 left)
 
-  -- one that has gates is found by its type
-  present : (q : Quantity) (ps : List Pair) (i : ℕ) → 0 < gatesOf q o → gateAmong (momentOf q o f at ++ ps) (typeOf q) i ≡ gateIn (own q .header) (own q .bytes) i
-  unfolding momentOf gateAmong momentFrom
-  present q ps i some =
-      ap (λ (b : Bool). gateAmong (cond b [] (own q ∷ []) ++ ps) (typeOf q) i) (ne-eqb (gatesOf q o) 0 (λ z. omega arith))
-      ∙ ap (λ (b : Bool). cond b (gateIn (own q .header) (own q .bytes) i) (gateAmong ps (typeOf q) i))
-      (eq-eqb _ (typeOf q) (type-is q (o .resolution)))
+    -- one that has gates is found by its type
+    present : (q : Quantity) (ps : List Pair) → 0 < gatesOf q o → among say none (momentOf q o f at ++ ps) (typeOf q) ≡ say (own q .header) (own q .bytes)
+    unfolding momentOf among momentFrom
+    present q ps some =
+        ap (λ (b : Bool). among say none (cond b [] (own q ∷ []) ++ ps) (typeOf q)) (ne-eqb (gatesOf q o) 0 (λ z. omega arith))
+        ∙ ap (λ (b : Bool). cond b (say (own q .header) (own q .bytes)) (among say none ps (typeOf q)))
+        (eq-eqb (own q .header .«data_type») (typeOf q) (type-is q (o .resolution)))
+
+    -- among the three
+    pub found : (q : Quantity) → 0 < gatesOf q o → among say none (momentsOf o f at) (typeOf q) ≡ say (own q .header) (own q .bytes)
+    found Reflectivity some = present Reflectivity (momentOf Velocity o f at ++ momentOf Width o f at) some
+    found Velocity some =
+        passed Reflectivity (momentOf Velocity o f at ++ momentOf Width o f at) 3 (λ e. omega arith) ∙ present Velocity (momentOf Width o f at) some
+    found Width some =
+        passed Reflectivity (momentOf Velocity o f at ++ momentOf Width o f at) 4 (λ e. omega arith)
+        ∙ passed Velocity (momentOf Width o f at) 4 (λ e. omega arith)
+        ∙ ap (λ (l : List Pair). among say none l 4) (sym (append-nil (momentOf Width o f at)))
+        ∙ present Width [] some
+
+    skipped : (q : Quantity) (ps : List Pair) (t : ℕ) → (typeOf q ≡ t → ⊥) ⊎ (gatesOf q o ≡ 0) → among say none (momentOf q o f at ++ ps) t ≡ among say none ps t
+    skipped q ps t = ⊎-elim (passed q ps t) (absent q ps t)
+
+    pub nowhere : (t : ℕ) → ((q : Quantity) → (typeOf q ≡ t → ⊥) ⊎ (gatesOf q o ≡ 0)) → among say none (momentsOf o f at) t ≡ none
+    unfolding among
+    nowhere t not =
+        skipped Reflectivity (momentOf Velocity o f at ++ momentOf Width o f at) t (not Reflectivity)
+        ∙ skipped Velocity (momentOf Width o f at) t (not Velocity)
+        ∙ ap (λ (l : List Pair). among say none l t) (sym (append-nil (momentOf Width o f at)))
+        ∙ skipped Width [] t (not Width)
 
   -- ---- its gates
 
@@ -119,28 +143,6 @@ module _ (o : OldRadial) (f : List ℕ) (at : ℕ) where
       ap (λ (b : Bool). cond b (answered (valuesOf (toldOf (ask.codingOf (own q .header)) (getD (codesOf 2 (own q .bytes)) i 0)))) (refused 32 0))
       (le-ltb i (length (codesOf 2 (own q .bytes))) (omega arith))
 
-  -- among the three
-  pub among : (q : Quantity) (i : ℕ) → 0 < gatesOf q o → gateAmong (momentsOf o f at) (typeOf q) i ≡ gateIn (own q .header) (own q .bytes) i
-  among Reflectivity i some = present Reflectivity (momentOf Velocity o f at ++ momentOf Width o f at) i some
-  among Velocity i some =
-      passed Reflectivity (momentOf Velocity o f at ++ momentOf Width o f at) 3 i (λ e. omega arith) ∙ present Velocity (momentOf Width o f at) i some
-  among Width i some =
-      passed Reflectivity (momentOf Velocity o f at ++ momentOf Width o f at) 4 i (λ e. omega arith)
-      ∙ passed Velocity (momentOf Width o f at) 4 i (λ e. omega arith)
-      ∙ ap (λ (l : List Pair). gateAmong l 4 i) (sym (append-nil (momentOf Width o f at)))
-      ∙ present Width [] i some
-
-  skipped : (q : Quantity) (ps : List Pair) (t i : ℕ) → (typeOf q ≡ t → ⊥) ⊎ (gatesOf q o ≡ 0) → gateAmong (momentOf q o f at ++ ps) t i ≡ gateAmong ps t i
-  skipped q ps t i = ⊎-elim (passed q ps t i) (absent q ps t i)
-
-  pub nowhere : (t i : ℕ) → ((q : Quantity) → (typeOf q ≡ t → ⊥) ⊎ (gatesOf q o ≡ 0)) → gateAmong (momentsOf o f at) t i ≡ refused 31 0
-  unfolding gateAmong
-  nowhere t i none =
-      skipped Reflectivity (momentOf Velocity o f at ++ momentOf Width o f at) t i (none Reflectivity)
-      ∙ skipped Velocity (momentOf Width o f at) t i (none Velocity)
-      ∙ ap (λ (l : List Pair). gateAmong l t i) (sym (append-nil (momentOf Width o f at)))
-      ∙ skipped Width [] t i (none Width)
-
   -- as many moments as the header says
   pub count-is : length (momentsOf o f at) ≡ momentCount (o .reflectivity) (o .doppler)
   unfolding momentOf momentCount gatesOf
@@ -161,13 +163,24 @@ module _ (f : List ℕ) (at : ℕ) (bytes : Bytes f) where
   gate-means q i h =
       record {
         values = valuesOf (toldOf (codingOf q (oldAt f at .resolution)) (getD (codesOf 2 (run newBytes (oldCodes q f at))) i 0));
-        answer = among (oldAt f at) f at q i (omega arith) ∙ own-gate (oldAt f at) f at q i h;
+        answer = found (oldAt f at) f at (λ x d. gateIn x d i) (refused 31 0) q (omega arith) ∙ own-gate (oldAt f at) f at q i h;
         says = moment-kept q f at bytes i h;
       }
 
   pub no-gate : (q : Quantity) (i : ℕ) → 0 < gatesOf q (oldAt f at) → gatesOf q (oldAt f at) ≤ i
       → gateAmong (momentsOf (oldAt f at) f at) (typeOf q) i ≡ refused 32 0
-  no-gate q i some h = among (oldAt f at) f at q i some ∙ own-none (oldAt f at) f at q i h
+  no-gate q i some h = found (oldAt f at) f at (λ x d. gateIn x d i) (refused 31 0) q some ∙ own-none (oldAt f at) f at q i h
+
+pub moment-keeps : (o : OldRadial) (f : List ℕ) (at : ℕ) (q : Quantity) → 0 < gatesOf q o → MomentKeeps (momentAmong (momentsOf o f at) (typeOf q))
+unfolding momentFrom
+moment-keeps o f at q some =
+    record {
+      header = momentFrom q (o .resolution) (gatesOf q o);
+      answer = found o f at (λ x d. answered x) (refused 31 0) q some;
+      bin-length = refl;
+      flags = refl;
+      reserved = refl;
+    }
 
 -- a type is that of one moment alone
 pub types-apart : (p q : Quantity) → (typeOf p ≡ typeOf q → ⊥) ⊎ (p ≡ q)

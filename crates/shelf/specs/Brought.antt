@@ -3,6 +3,7 @@ use Prim.Native.Nat.{ℕ, suc, _+_, _*_, _/_, _%_, _≤_, _<_}
 use mathlib.Core.List.{List, [], _∷_, _++_}
 use mathlib.Core.Path.{_≡_}
 use lib.ListN.{length, getD, drop, replicate}
+use Rattle.moment.specs.declared.Moment.{Moment}
 use Rattle.radial.specs.declared.Radial.{Radial}
 use Rattle.generic.specs.declared.Generic.{Generic}
 use Rattle.generic.specs.Generic.{genericBytes}
@@ -21,6 +22,7 @@ use Rattle.writer.specs.Many.{beginning, putAll}
 use Rattle.writer.specs.Put.{Outcome}
 use Rattle.writer.specs.Trips.{ReadBack}
 use Rattle.retold.specs.Many.{FitsAll, writtenIn}
+use Rattle.retold.specs.Retold.{momentAsked}
 use Rattle.old.specs.declared.codes.Quantity.{Quantity}
 use Rattle.old.specs.declared.codes.Quantity.the-variants.{Reflectivity, Velocity, Width}
 use Rattle.old.specs.declared.record.OldRadial.{OldRadial}
@@ -64,12 +66,21 @@ pub record HeaderKeeps (o : OldRadial) (r : Radial) : Type 0 where
   pub spot-blank : r .«spot_blank» ≡ 0
   pub reserved : r .reserved ≡ replicate 20 0
 
+-- what the header of a moment has: two bytes a gate, and zeros where the old radial has nothing (document 02, #102)
+pub record MomentKeeps (told : Telling Moment) : Type 0 where
+  pub header : Moment
+  pub answer : told ≡ answered header
+  pub bin-length : header .«bin_length» ≡ 2
+  pub flags : header .flags ≡ 0
+  pub reserved : header .reserved ≡ replicate 12 0
+
 -- the radial of the old file with k before it, in a volume, by the questions on its sequence number. Each gate of each of its moments is
 -- answered, and no other: a moment has as many gates as the old one, one of 0 gates is left out, and there is no other type.
 pub record Radial-kept (f : List ℕ) (k : ℕ) (volume : List ℕ) : Type 0 where
   pub there : radialOfFile volume (suc k) .number ≡ 0
   pub sequence : radialOfFile volume (suc k) .header .sequence ≡ suc k
   pub header : HeaderKeeps (oldAt f (radialPlace k)) (radialOfFile volume (suc k) .header)
+  pub moment : (q : Quantity) → 0 < gatesOf q (oldAt f (radialPlace k)) → MomentKeeps (momentAsked volume (suc k) (typeOf q))
   pub gate : (q : Quantity) (i : ℕ) → i < gatesOf q (oldAt f (radialPlace k))
       → Means (gateAsked volume (suc k) (typeOf q) i) (meaning q (oldAt f (radialPlace k) .resolution) (oldCode q f (radialPlace k) i))
   pub no-gate : (q : Quantity) (i : ℕ) → 0 < gatesOf q (oldAt f (radialPlace k)) → gatesOf q (oldAt f (radialPlace k)) ≤ i
