@@ -3,7 +3,7 @@ use Prim.Native.Nat.{ℕ, zero, suc, _+_, _-_, _*_, _/_, _≤_, _<_}
 use native.Mathlib.Decide.{decLt}
 use native.Mathlib.Nat.{zero-add}
 use native.Mathlib.Omega.{arith}
-use mathlib.Core.Bool.{true}
+use mathlib.Core.Bool.{Bool, true, false}
 use mathlib.Core.List.{List, [], _∷_, _++_, append-nil, append-assoc}
 use mathlib.Core.Logic.{_⊎_, inl, inr, ⊎-elim, dite}
 use mathlib.Core.Path.{_≡_, refl, sym, ap, ap₂, subst⁻¹, _∙_}
@@ -29,7 +29,8 @@ use Rattle.reading.proofs.Run.{hoped, settle-took}
 use Rattle.ask.specs.declared.answers.RadialAnswer.{RadialAnswer}
 use Rattle.ask.specs.Answers.{gateIn, radialOfFile}
 use Rattle.ask.specs.Growth.{gateAsked}
-use Rattle.writer.specs.declared.order.Answer.the-variants.{Taken}
+use Rattle.writer.specs.declared.order.Answer.{Answer}
+use Rattle.writer.specs.declared.order.Answer.the-variants.{Taken, Refused}
 use Rattle.writer.specs.Agree.{Agrees}
 use Rattle.writer.specs.Block.{Block, generic, site, task, cut, radial, moment, «data», bytesOf}
 use Rattle.writer.specs.Many.{beginning, putAll}
@@ -44,10 +45,10 @@ use Rattle.old.specs.declared.codes.Quantity.{Quantity}
 use Rattle.old.specs.Codes.{meaning}
 use Rattle.old.specs.Headers.{gatesOf, radialFrom}
 use Rattle.old.specs.Old.{oldAt}
-use Rattle.old.specs.Shelf.{radialsIn, radialPlace}
+use Rattle.old.specs.Shelf.{shelfOk, radialsIn, radialPlace}
 use Rattle.old.proofs.Fitting.{old-fits}
 use Rattle.shelf.specs.Brought.{typeOf, oldCode, Means, HeaderKeeps, MomentKeeps, Radial-kept, Brought}
-use Rattle.shelf.specs.Import.{firstCuts, restOf, ourBlocks, momentsOf, oldRadial, oldBlocks, takeOver, takeFirst, ours, through}
+use Rattle.shelf.specs.Import.{firstCuts, restOf, ourBlocks, momentsOf, oldRadial, oldBlocks, takeOver, takeFirst, ours, through, refusedWhole, allOrNothing, importOf}
 use Rattle.shelf.proofs.Imported.{Radials, radials, front-stands}
 use Rattle.shelf.proofs.Kept.{header-keeps, count-is, moment-keeps, gate-means, no-gate, nowhere, types-apart}
 use Rattle.shelf.proofs.Ours.{join-fits, our-fits, ours-taken}
@@ -294,3 +295,39 @@ module _ (g : Generic) (s : Site) (t : Task) (c f room : List ℕ) (gf : Generic
         radials = whole-are c f fb o stood none-whole n taken;
         each = λ k l. kept-here c f fb o stood none-whole k n l taken;
       }
+
+-- ---- an import that is taken or refused
+
+module _ (g : Generic) (s : Site) (t : Task) (c f room : List ℕ) where
+  -- it is what goes through, or a refusal whole
+  data Ending : Type 0 where
+    goes : importOf g s t c f room ≡ through g s t c f room → through g s t c f room .answer ≡ Taken → Ending
+    stops : (n p : ℕ) → importOf g s t c f room ≡ refusedWhole n p room → Ending
+
+  ending : Ending
+  unfolding importOf allOrNothing
+  ending = go (shelfOk (length f)) refl (through g s t c f room .answer) refl
+    where
+      go : (x : Bool) → shelfOk (length f) ≡ x → (y : Answer) → through g s t c f room .answer ≡ y → Ending
+      go true e Taken k = goes (rw e (ap (λ (y : Answer). allOrNothing y (through g s t c f room) room) k)) k
+      go true e (Refused n p) k = stops n p (rw e (ap (λ (y : Answer). allOrNothing y (through g s t c f room) room) k))
+      go false e y k = stops 50 0 (rw e)
+
+  -- a refusal leaves everything as it was
+  pub refused-all : (n p : ℕ) → importOf g s t c f room .answer ≡ Refused n p → importOf g s t c f room ≡ refusedWhole n p room
+  refused-all n p r = go ending
+    where
+      go : Ending → importOf g s t c f room ≡ refusedWhole n p room
+      go (goes e k) =
+          absurd (let x : Taken ≡ Refused n p = sym k ∙ ap (λ (o : Outcome). o .answer) (sym e) ∙ r in let z : _≡_ {A = ℕ} 0 1 = cc in omega arith)
+      go (stops m q e) =
+          let same : Refused m q ≡ Refused n p = ap (λ (o : Outcome). o .answer) (sym e) ∙ r in
+          e ∙ ap (λ (a : Answer). record { answer = a; walk = atStart; room = room }) same
+
+  pub taken-all : GenericFits g → SiteFits s → TaskFits t → Bytes c → Bytes f → importOf g s t c f room .answer ≡ Taken → Brought g s t c f room (importOf g s t c f room)
+  taken-all gf sf tf cb fb r = go ending
+    where
+      go : Ending → Brought g s t c f room (importOf g s t c f room)
+      go (goes e k) = subst⁻¹ (Brought g s t c f room) e (brought g s t c f room gf sf tf cb fb k)
+      go (stops m q e) =
+          absurd (let x : Refused m q ≡ Taken = ap (λ (o : Outcome). o .answer) (sym e) ∙ r in let z : _≡_ {A = ℕ} 0 1 = cc in omega arith)
