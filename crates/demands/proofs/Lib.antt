@@ -3,6 +3,7 @@ pub mod Cuts
 pub mod Decoded
 pub mod Floats
 pub mod Hopes
+pub mod Imports
 pub mod One
 pub mod States
 pub mod Wedges

@@ -59,6 +59,7 @@ use Rattle.writer.specs.Block.{Block, kindOf, saysOf, fitsOf, lengthOf, bytesOf
 use Rattle.writer.specs.Put.{lastTests, checked, answerTo, outcome, Outcome, put, putOn}
 use Rattle.writer.proofs.Same.{tests-agreement}
 use Rattle.writer.proofs.Told.{puts-same}
+use Rattle.shelf.proofs.Bringing.{refused-all}
 use Rattle.demands.specs.One.{Ending, is-complete, is-open, is-refused, Questions, Row, Tallied, Indexed, WriterRefuses, Unchanged, Determined, DemandOne}
 
 -- ---- every file has an ending
@@ -243,6 +244,9 @@ unchanged =
       row = row-kept;
       tally = tally-kept;
       index = index-kept;
+      imported = λ g s t c f room n p e.
+          let r = refused-all g s t c f room n p e in
+          (ap (λ (o : Outcome). o .walk) r, ap (λ (o : Outcome). o .room) r);
       block = λ n room at bs h. stored-no n room at bs (lt-leb (at + n) (length room) h);
     }
 

@@ -33,6 +33,7 @@ use Rattle.writer.proofs.Runs.{run-back}
 use Rattle.demands.proofs.Cuts.{many-cuts-hold}
 use Rattle.demands.proofs.Floats.{floats}
 use Rattle.demands.proofs.Hopes.{hopes-hold}
+use Rattle.demands.proofs.Imports.{imports}
 use Rattle.demands.proofs.States.{state-rule}
 use Rattle.demands.proofs.Decoded.{decoded-rows}
 use Rattle.demands.proofs.Whys.{whys}
@@ -113,5 +114,6 @@ demand-two =
       wedges = wedges-hold;
       trips = trips;
       writing = writing;
+      imports = imports;
       index = index-right;
     }

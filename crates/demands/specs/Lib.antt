@@ -4,6 +4,7 @@ pub mod Cuts
 pub mod Wedges
 pub mod Decoded
 pub mod Whys
+pub mod Imports
 pub mod One
 pub mod States
 pub mod Two

@@ -21,10 +21,13 @@ use Rattle.gates.specs.Codes.{codesOf}
 use Rattle.gates.specs.Gates.{toldGate, valuesOf}
 use Rattle.gates.specs.Rows.{toldRow, rooms, Rowed}
 use Rattle.gates.specs.Telling.{refused, answered}
+use Rattle.generic.specs.declared.Generic.{Generic}
+use Rattle.site.specs.declared.Site.{Site}
+use Rattle.task.specs.declared.Task.{Task}
 use Rattle.moment.specs.Moment.{momentAt}
 use Rattle.moments.specs.Moments.{dataAt}
 use Rattle.walk.specs.declared.due.Walk.{Walk}
-use Rattle.walk.specs.Due.{isEnd}
+use Rattle.walk.specs.Due.{isEnd, atStart}
 use Rattle.reading.specs.declared.Found.the-variants.{Nowhere}
 use Rattle.reading.specs.declared.Reading.{Reading}
 use Rattle.reading.specs.declared.Stretch.{Stretch}
@@ -54,6 +57,7 @@ use Rattle.writer.specs.declared.order.Put.{Put}
 use Rattle.writer.specs.Agree.{sameKind, agrees, TestsAgreement}
 use Rattle.writer.specs.Block.{Block, kindOf, saysOf, fitsOf, lengthOf}
 use Rattle.writer.specs.Put.{Outcome, Puts, put, putOn}
+use Rattle.shelf.specs.Import.{importOf}
 
 -- a file is complete, open with the missing bytes, or refused with number and place
 pub data Ending (f : List ℕ) : Type 0 where
@@ -116,7 +120,8 @@ pub record WriterRefuses (b : Block) (w : Walk) (room : List ℕ) : Type 0 where
       → (m : Walk) → saysOf b room w ≡ step.Took m → fitsOf b w ≡ true → length room < w .at + lengthOf b → put b w room .answer ≡ Refused 33 (w .at)
 
 -- after a refusal the writer's state and room, the buffers of a row, the tally record and the room of an index or of a
--- record are what they were; a decoded row is lent only to be read
+-- record are what they were; a decoded row is lent only to be read. An import that is refused leaves the room as it was, and the state
+-- that it tells has begun no volume
 pub record Unchanged : Type 0 where
   pub put : (b : Block) (w : Walk) (room : List ℕ) (n p : ℕ) → put b w room .answer ≡ Refused n p → (put b w room .walk ≡ w) × (put b w room .room ≡ room)
   pub put-on : (b : Block) (w : Walk) (room : List ℕ) (n p : ℕ) → putOn b w room .answer ≡ Refused n p
@@ -124,11 +129,13 @@ pub record Unchanged : Type 0 where
   pub row : (f : List ℕ) (at : Where) (k k′ : List ℕ) (h h′ : List ℤ) (n : ℕ) → RowTold f at k h (row.Refused n) k′ h′ → (k′ ≡ k) × (h′ ≡ h)
   pub tally : (old : Tally) (n p : ℕ) → lentOf old (refused n p) .tally ≡ old
   pub index : (f before after : List ℕ) (n : ℕ) → Writes f before (index.Refused n) after → after ≡ before
+  pub imported : (g : Generic) (s : Site) (t : Task) (c f room : List ℕ) (n p : ℕ) → importOf g s t c f room .answer ≡ Refused n p
+      → (importOf g s t c f room .walk ≡ atStart) × (importOf g s t c f room .room ≡ room)
   pub block : (n : ℕ) (room : List ℕ) (at : ℕ) (bs : List ℕ) → length room < at + n → stored n room at bs ≡ room
 
 -- two results that keep one promise are the same: those of reading, of a gate, of what is told of it and of its answer, of
--- a row with its buffers, of codes and of a file, of a decoded row, of a tally, of an index and of a put with its room; every other
--- promise is an equation
+-- a row with its buffers, of codes and of a file, of a decoded row, of a tally, of an index and of a put or an import with its room; every
+-- other promise is an equation
 pub record Determined : Type 0 where
   pub verdict : (a b : Verdict) → verdictTold a ≡ verdictTold b → a ≡ b
   pub reading : (f : List ℕ) (a b : Reading) → Tells f a → Tells f b → a ≡ b

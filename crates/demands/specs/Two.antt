@@ -54,6 +54,7 @@ use Rattle.demands.specs.Decoded.{DecodedRows}
 use Rattle.demands.specs.Whys.{Whys}
 use Rattle.demands.specs.Floats.{Floats}
 use Rattle.demands.specs.Hopes.{Hopes}
+use Rattle.demands.specs.Imports.{Imports}
 use Rattle.demands.specs.States.{StateRule}
 use Rattle.demands.specs.Wedges.{Wedges}
 
@@ -174,4 +175,6 @@ pub record DemandTwo : Type 0 where
   pub wedges : Wedges
   pub trips : Trips
   pub writing : Writing
+  -- what an import of an old shelf brings over, and in which order it is refused (`Imports`)
+  pub imports : Imports
   pub index : IndexRight
