@@ -99,7 +99,7 @@ settle-cuts : (c : List ℕ) (room k : ℕ) (p : Put) → settleAll c room (firs
 unfolding firstCuts settleCuts settleAll
 settle-cuts c room zero p = refl
 settle-cuts c room (suc k) p =
-    settle-append c room (firstCuts k c) (cut (cutAt c (k * cutSize)) ∷ []) p ∙ ap (settleNext c room (cut (cutAt c (k * cutSize)))) (settle-cuts c room k p)
+    settle-append c room (firstCuts k c) (cut (cutAt c (k * cutSize)) ∷ []) p ∙ ap (settleNext room (cut (cutAt c (k * cutSize)))) (settle-cuts c room k p)
 
 settle-rest : (c l : List ℕ) (room : ℕ) (p : Put) → settleAll c room (restOf l) p ≡ settleRest room (length l) p
 unfolding restOf settleRest settleAll
@@ -133,7 +133,7 @@ module _ (g : Generic) (s : Site) (t : Task) (c room : List ℕ) (gf : GenericFi
   ours-settle =
       let k = length c / 256 in
       let l = drop (length c / 256 * 256) c in
-      let h = settleHead g s t c (length room) in
+      let h = settleHead g s t (length room) in
       let r = all-settles c (ourBlocks g s t c) our-fits our-roomless (beginning room) (λ e. start room) in
       record {
         settles =

@@ -44,7 +44,7 @@ use Rattle.old.specs.Old.{OldFits, oldAt, oldCheck}
 use Rattle.old.proofs.Back.{new-length}
 use Rattle.old.proofs.Fitting.{old-fits, radial-fits, moment-fits}
 use Rattle.shelf.specs.Import.{momentOf, momentsOf, oldRadial, oldBlocks, unlessBroken, takeOver}
-use Rattle.shelf.specs.Settled.{unless, front, settleNext, settleData, counted, radialNext, settleMoment, settleMoments, unlessBad, settleOver, Lay, laidBytes, laidIf, bytesNext, settledOver, layOver}
+use Rattle.shelf.specs.Settled.{unless, front, settleIn, settleNext, settleData, counted, radialNext, settleMoment, settleMoments, unlessBad, settleOver, Lay, laidBytes, laidIf, bytesNext, settledOver, layOver}
 use Rattle.shelf.proofs.Settling.{putOf, settleAll, settle-append, Agreed, AllRoomless, Settles, next, first-settles, all-settles}
 use Rattle.shelf.proofs.Walks.{small, cut-known}
 
@@ -87,19 +87,19 @@ blocks-join (p ∷ xs) ys = ap (λ (l : List Block). moment (p .header) ∷ «da
 -- ---- its moments settled
 
 module _ (c : List ℕ) (room : ℕ) (o : OldRadial) (f : List ℕ) (at : ℕ) where
-  settle-moment : (q : Quantity) (p : Put) → settleAll c room (momentBlocks (momentOf q o f at)) p ≡ settleMoment c room q o p
+  settle-moment : (q : Quantity) (p : Put) → settleAll c room (momentBlocks (momentOf q o f at)) p ≡ settleMoment room q o p
   unfolding momentOf settleMoment momentBlocks settleAll
   settle-moment q p = go (eqb (gatesOf q o) 0)
     where
       go : (x : Bool)
           → settleAll c room (momentBlocks (cond x [] (record { header = momentFrom q (o .resolution) (gatesOf q o); bytes = run newBytes (part (gatesOf q o) f (at + placeOf q o)) } ∷ []))) p
-          ≡ cond x p (settleData room (2 * gatesOf q o) (settleNext c room (moment (momentFrom q (o .resolution) (gatesOf q o))) p))
+          ≡ cond x p (settleData room (2 * gatesOf q o) (settleNext room (moment (momentFrom q (o .resolution) (gatesOf q o))) p))
       go true = refl
       go false =
-          ap (λ (k : ℕ). settleData room k (settleNext c room (moment (momentFrom q (o .resolution) (gatesOf q o))) p))
+          ap (λ (k : ℕ). settleData room k (settleNext room (moment (momentFrom q (o .resolution) (gatesOf q o))) p))
           (new-length (part (gatesOf q o) f (at + placeOf q o)) ∙ ap (λ (k : ℕ). 2 * k) (length-part (gatesOf q o) f (at + placeOf q o)))
 
-  settle-moments : (p : Put) → settleAll c room (momentBlocks (momentsOf o f at)) p ≡ settleMoments c room o p
+  settle-moments : (p : Put) → settleAll c room (momentBlocks (momentsOf o f at)) p ≡ settleMoments room o p
   settle-moments p =
       let r = momentOf Reflectivity o f at in
       let v = momentOf Velocity o f at in
@@ -108,8 +108,8 @@ module _ (c : List ℕ) (room : ℕ) (o : OldRadial) (f : List ℕ) (at : ℕ) w
       ∙ settle-append c room (momentBlocks r) (momentBlocks v ++ momentBlocks w) p
       ∙ settle-append c room (momentBlocks v) (momentBlocks w) (settleAll c room (momentBlocks r) p)
       ∙ ap (λ (x : Put). settleAll c room (momentBlocks w) (settleAll c room (momentBlocks v) x)) (settle-moment Reflectivity p)
-      ∙ ap (settleAll c room (momentBlocks w)) (settle-moment Velocity (settleMoment c room Reflectivity o p))
-      ∙ settle-moment Width (settleMoment c room Velocity o (settleMoment c room Reflectivity o p))
+      ∙ ap (settleAll c room (momentBlocks w)) (settle-moment Velocity (settleMoment room Reflectivity o p))
+      ∙ settle-moment Width (settleMoment room Velocity o (settleMoment room Reflectivity o p))
 
 -- ---- what holds of a state behind our records, while nothing is refused
 
@@ -180,12 +180,12 @@ module _ (c f : List ℕ) (at : ℕ) (bytes : Bytes f) (o : Outcome) where
 
   blocks-settle : (h : Standing c o)
       → putOf (putAll (oldBlocks f at (o .walk)) o)
-      ≡ settleMoments c (length (o .room)) (oldAt f at) (settleNext c (length (o .room)) (radial (radialNext (oldAt f at) (o .walk))) (putOf o))
+      ≡ settleMoments (length (o .room)) (oldAt f at) (settleIn (front c) (length (o .room)) (radial (radialNext (oldAt f at) (o .walk))) (putOf o))
   unfolding settleAll
   blocks-settle h =
       all-blocks h .settles
-      ∙ settle-moments c (length (o .room)) (oldAt f at) f at (settleNext c (length (o .room)) (radial (oldRadial f at (o .walk))) (putOf o))
-      ∙ ap (λ (x : Radial). settleMoments c (length (o .room)) (oldAt f at) (settleNext c (length (o .room)) (radial x) (putOf o))) (sym (radial-is o (oldAt f at) (h .agree)))
+      ∙ settle-moments c (length (o .room)) (oldAt f at) f at (settleIn (front c) (length (o .room)) (radial (oldRadial f at (o .walk))) (putOf o))
+      ∙ ap (λ (x : Radial). settleMoments (length (o .room)) (oldAt f at) (settleIn (front c) (length (o .room)) (radial x) (putOf o))) (sym (radial-is o (oldAt f at) (h .agree)))
 
   pub over-settles : (o .answer ≡ Taken → Standing c o) → OverSettles
   unfolding unlessRefused unless unlessBroken unlessBad
@@ -197,12 +197,12 @@ module _ (c f : List ℕ) (at : ℕ) (bytes : Bytes f) (o : Outcome) where
       settled-one : Put
       settled-one =
           unlessBad (oldCheck (oldAt f at)) at (putOf o)
-          (settleMoments c (length (o .room)) (oldAt f at) (settleNext c (length (o .room)) (radial (radialNext (oldAt f at) (o .walk))) (putOf o)))
+          (settleMoments (length (o .room)) (oldAt f at) (settleIn (front c) (length (o .room)) (radial (radialNext (oldAt f at) (o .walk))) (putOf o)))
 
       by-check : (x : Check) → Standing c o
           → (putOf (unlessBroken x at o (putAll (oldBlocks f at (o .walk)) o))
           ≡ unlessBad x at (putOf o)
-          (settleMoments c (length (o .room)) (oldAt f at) (settleNext c (length (o .room)) (radial (radialNext (oldAt f at) (o .walk))) (putOf o))))
+          (settleMoments (length (o .room)) (oldAt f at) (settleIn (front c) (length (o .room)) (radial (radialNext (oldAt f at) (o .walk))) (putOf o))))
           × (length (unlessBroken x at o (putAll (oldBlocks f at (o .walk)) o) .room) ≡ length (o .room))
       by-check Fine s = (blocks-settle s, all-blocks s .room)
       by-check (Broken k) s = (refl, refl)

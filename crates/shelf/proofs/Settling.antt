@@ -28,7 +28,7 @@ use Rattle.writer.proofs.Putting.{passed}
 use Rattle.writer.proofs.Same.{kind-is}
 use Rattle.retold.specs.Many.{FitsAll}
 use Rattle.retold.proofs.Many.{before-taken, next-put}
-use Rattle.shelf.specs.Settled.{unless, front, settleNext}
+use Rattle.shelf.specs.Settled.{unless, front, settleIn}
 use Rattle.cut.specs.declared.Cut.{Cut}
 
 -- an outcome but for its room
@@ -38,12 +38,12 @@ putOf o = record { answer = o .answer; walk = o .walk }
 -- blocks settled one after the other
 unfoldable pub settleAll : List ℕ → ℕ → List Block → Put → Put
 settleAll c room [] p = p
-settleAll c room (b ∷ bs) p = settleAll c room bs (settleNext c room b p)
+settleAll c room (b ∷ bs) p = settleAll c room bs (settleIn (front c) room b p)
 
 pub settle-append : (c : List ℕ) (room : ℕ) (xs ys : List Block) (p : Put) → settleAll c room (xs ++ ys) p ≡ settleAll c room ys (settleAll c room xs p)
 unfolding settleAll
 settle-append c room [] ys p = refl
-settle-append c room (b ∷ xs) ys p = settle-append c room xs ys (settleNext c room b p)
+settle-append c room (b ∷ xs) ys p = settle-append c room xs ys (settleIn (front c) room b p)
 
 -- ---- one block
 
@@ -102,7 +102,7 @@ module _ (c : List ℕ) (b : Block) (fits : Fits b) (o : Outcome) where
 
   -- what a block after others is settled as, and what it leaves
   pub record Next : Type 0 where
-    pub settles : putOf (putNext b o) ≡ settleNext c (length (o .room)) b (putOf o)
+    pub settles : putOf (putNext b o) ≡ settleIn (front c) (length (o .room)) b (putOf o)
     pub room : length (putNext b o .room) ≡ length (o .room)
     pub agreed : Agreed (putNext b o)
 

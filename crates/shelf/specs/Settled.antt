@@ -42,9 +42,13 @@ unless (Refused n p) before next = before
 abbrev pub front : List ℕ → List ℕ
 front c = replicate (cutPlace 1) 0 ++ c
 
-abbrev pub settleNext : List ℕ → ℕ → Block → Put → Put
-settleNext c room b p =
-    unless (p .answer) p (settledBy (kindOf b) (saysOf b (front c) (p .walk)) (fitsOf b (p .walk)) (lengthOf b) (p .walk) room)
+-- held are the bytes in which a radial finds its cut; no other block asks for any
+abbrev pub settleIn : List ℕ → ℕ → Block → Put → Put
+settleIn held room b p =
+    unless (p .answer) p (settledBy (kindOf b) (saysOf b held (p .walk)) (fitsOf b (p .walk)) (lengthOf b) (p .walk) room)
+
+abbrev pub settleNext : ℕ → Block → Put → Put
+settleNext room b p = settleIn [] room b p
 
 -- of data only how many bytes there are
 abbrev pub settleData : ℕ → ℕ → Put → Put
@@ -54,7 +58,7 @@ settleData room size p = unless (p .answer) p (settledBy due.Data (takeData (p .
 
 unfoldable pub settleCuts : ℕ → List ℕ → ℕ → Put → Put
 settleCuts zero c room p = p
-settleCuts (suc k) c room p = settleNext c room (cut (cutAt c (k * cutSize))) (settleCuts k c room p)
+settleCuts (suc k) c room p = settleNext room (cut (cutAt c (k * cutSize))) (settleCuts k c room p)
 
 unfoldable pub settleRest : ℕ → ℕ → Put → Put
 settleRest room size p = cond (eqb size 0) p (settleData room size p)
@@ -62,11 +66,11 @@ settleRest room size p = cond (eqb size 0) p (settleData room size p)
 abbrev pub fresh : Put
 fresh = record { answer = Taken; walk = atStart }
 
-abbrev pub settleHead : Generic → Site → Task → List ℕ → ℕ → Put
-settleHead g s t c room = settleNext c room (task t) (settleNext c room (site s) (settleNext c room (generic g) fresh))
+abbrev pub settleHead : Generic → Site → Task → ℕ → Put
+settleHead g s t room = settleNext room (task t) (settleNext room (site s) (settleNext room (generic g) fresh))
 
 abbrev pub settleOurs : Generic → Site → Task → List ℕ → ℕ → Put
-settleOurs g s t c room = settleRest room (length c % cutSize) (settleCuts (length c / cutSize) c room (settleHead g s t c room))
+settleOurs g s t c room = settleRest room (length c % cutSize) (settleCuts (length c / cutSize) c room (settleHead g s t room))
 
 -- ---- an old radial settled
 
@@ -77,13 +81,13 @@ counted n = (n + 1) % 2 ^ 32
 abbrev pub radialNext : OldRadial → Walk → Radial
 radialNext o w = radialFrom o (counted (w .count .whole)) (counted (w .count .«in_cut»))
 
-unfoldable pub settleMoment : List ℕ → ℕ → Quantity → OldRadial → Put → Put
-settleMoment c room q o p =
+unfoldable pub settleMoment : ℕ → Quantity → OldRadial → Put → Put
+settleMoment room q o p =
     cond (eqb (gatesOf q o) 0) p
-    (settleData room (2 * gatesOf q o) (settleNext c room (moment (momentFrom q (o .resolution) (gatesOf q o))) p))
+    (settleData room (2 * gatesOf q o) (settleNext room (moment (momentFrom q (o .resolution) (gatesOf q o))) p))
 
-abbrev pub settleMoments : List ℕ → ℕ → OldRadial → Put → Put
-settleMoments c room o p = settleMoment c room Width o (settleMoment c room Velocity o (settleMoment c room Reflectivity o p))
+abbrev pub settleMoments : ℕ → OldRadial → Put → Put
+settleMoments room o p = settleMoment room Width o (settleMoment room Velocity o (settleMoment room Reflectivity o p))
 
 unfoldable pub unlessBad : Check → ℕ → Put → Put → Put
 unlessBad Fine at before next = next
@@ -91,7 +95,7 @@ unlessBad (Broken c) at before next = record { answer = Refused (c .number) at; 
 
 abbrev pub settleOver : List ℕ → ℕ → OldRadial → ℕ → Put → Put
 settleOver c room o at p =
-    unless (p .answer) p (unlessBad (oldCheck o) at p (settleMoments c room o (settleNext c room (radial (radialNext o (p .walk))) p)))
+    unless (p .answer) p (unlessBad (oldCheck o) at p (settleMoments room o (settleIn (front c) room (radial (radialNext o (p .walk))) p)))
 
 unfoldable pub settleFirst : ℕ → List ℕ → List ℕ → ℕ → Put → Put
 settleFirst zero c f room p = p

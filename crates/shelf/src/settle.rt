@@ -39,8 +39,8 @@ pub(crate) fn refused(number: u32, place: usize, walk: Walk) -> Put
 
 // ---- a block, where nothing is refused yet
 
-fn next_site(p: Put, cuts: &[u8], room: &[u8], r: Site) -> Put
-    ensures { λ q. ⌜ q ≡ settleNext (now (cuts .entry)) (length (now (room .entry))) (site r) p ⌝ }
+fn next_site(p: Put, room: &[u8], r: Site) -> Put
+    ensures { λ q. ⌜ q ≡ settleNext (length (now (room .entry))) (site r) p ⌝ }
 {
     let answer = p.answer;
     match answer {
@@ -52,8 +52,8 @@ fn next_site(p: Put, cuts: &[u8], room: &[u8], r: Site) -> Put
     }
 }
 
-fn next_task(p: Put, cuts: &[u8], room: &[u8], r: Task) -> Put
-    ensures { λ q. ⌜ q ≡ settleNext (now (cuts .entry)) (length (now (room .entry))) (task r) p ⌝ }
+fn next_task(p: Put, room: &[u8], r: Task) -> Put
+    ensures { λ q. ⌜ q ≡ settleNext (length (now (room .entry))) (task r) p ⌝ }
 {
     let answer = p.answer;
     match answer {
@@ -65,8 +65,8 @@ fn next_task(p: Put, cuts: &[u8], room: &[u8], r: Task) -> Put
     }
 }
 
-fn next_cut(p: Put, cuts: &[u8], room: &[u8], r: Cut) -> Put
-    ensures { λ q. ⌜ q ≡ settleNext (now (cuts .entry)) (length (now (room .entry))) (cut r) p ⌝ }
+fn next_cut(p: Put, room: &[u8], r: Cut) -> Put
+    ensures { λ q. ⌜ q ≡ settleNext (length (now (room .entry))) (cut r) p ⌝ }
 {
     let answer = p.answer;
     match answer {
@@ -78,8 +78,8 @@ fn next_cut(p: Put, cuts: &[u8], room: &[u8], r: Cut) -> Put
     }
 }
 
-fn next_moment(p: Put, cuts: &[u8], room: &[u8], r: Moment) -> Put
-    ensures { λ q. ⌜ q ≡ settleNext (now (cuts .entry)) (length (now (room .entry))) (moment r) p ⌝ }
+fn next_moment(p: Put, room: &[u8], r: Moment) -> Put
+    ensures { λ q. ⌜ q ≡ settleNext (length (now (room .entry))) (moment r) p ⌝ }
 {
     let answer = p.answer;
     match answer {
@@ -113,7 +113,7 @@ fn settle_cuts(p: Put, cuts: &[u8], room: &[u8]) -> Put
     let mut q = p;
     let mut k = 0;
     while k < n {
-        q = next_cut(q, cuts, room, Cut::read(cuts, k * Cut::SIZE));
+        q = next_cut(q, room, Cut::read(cuts, k * Cut::SIZE));
         k += 1;
     }
     q
@@ -133,8 +133,8 @@ pub(crate) fn settle_ours(g: Generic, s: Site, t: Task, cuts: &[u8], room: &[u8]
     ensures { λ q. ⌜ q ≡ settleOurs g s t (now (cuts .entry)) (length (now (room .entry))) ⌝ }
 {
     let p = settle::generic(Walk::begin(), room, g);
-    let p = next_site(p, cuts, room, s);
-    let p = next_task(p, cuts, room, t);
+    let p = next_site(p, room, s);
+    let p = next_task(p, room, t);
     let p = settle_cuts(p, cuts, room);
     settle_rest(p, room, cuts.len() % Cut::SIZE)
 }
@@ -163,23 +163,23 @@ fn settle_radial(w: Walk, cuts: &[u8], room: &[u8], r: Radial) -> Put
     settle::radial(w, room, r, mask, sizes)
 }
 
-fn settle_moment(p: Put, cuts: &[u8], room: &[u8], q: Quantity, o: OldRadial) -> Put
-    ensures { λ r. ⌜ r ≡ settleMoment (now (cuts .entry)) (length (now (room .entry))) q o p ⌝ }
+fn settle_moment(p: Put, room: &[u8], q: Quantity, o: OldRadial) -> Put
+    ensures { λ r. ⌜ r ≡ settleMoment (length (now (room .entry))) q o p ⌝ }
 {
     let n = headers::gates(q, o);
     if n == 0 {
         return p;
     }
     let m = headers::moment_from(q, o.resolution, n);
-    next_data(next_moment(p, cuts, room, m), room, 2 * (n as usize))
+    next_data(next_moment(p, room, m), room, 2 * (n as usize))
 }
 
-fn settle_moments(p: Put, cuts: &[u8], room: &[u8], o: OldRadial) -> Put
-    ensures { λ q. ⌜ q ≡ settleMoments (now (cuts .entry)) (length (now (room .entry))) o p ⌝ }
+fn settle_moments(p: Put, room: &[u8], o: OldRadial) -> Put
+    ensures { λ q. ⌜ q ≡ settleMoments (length (now (room .entry))) o p ⌝ }
 {
-    let p = settle_moment(p, cuts, room, Quantity::Reflectivity, o);
-    let p = settle_moment(p, cuts, room, Quantity::Velocity, o);
-    settle_moment(p, cuts, room, Quantity::Width, o)
+    let p = settle_moment(p, room, Quantity::Reflectivity, o);
+    let p = settle_moment(p, room, Quantity::Velocity, o);
+    settle_moment(p, room, Quantity::Width, o)
 }
 
 // Its own rules first; then the writer's, block by block.
@@ -197,7 +197,7 @@ pub(crate) fn settle_over(p: Put, cuts: &[u8], room: &[u8], o: OldRadial, at: us
     match o.check() {
         Check::Fine => {
             let q = settle_radial(w, cuts, room, radial_next(o, w));
-            settle_moments(q, cuts, room, o)
+            settle_moments(q, room, o)
         }
         Check::Broken(c) => refused(c.number, at, w),
     }

@@ -19,9 +19,9 @@ module _ (c : List ℕ) (room : ℕ) (p : Put) where
   unfolding settleCuts
   none = refl
 
-  turn : (k : ℕ) {x y : Put} {r : Cut} → x ≡ settleCuts k c room p → r ≡ cutAt c (k * cutSize) → y ≡ settleNext c room (cut r) x → y ≡ settleCuts (k + 1) c room p
+  turn : (k : ℕ) {x y : Put} {r : Cut} → x ≡ settleCuts k c room p → r ≡ cutAt c (k * cutSize) → y ≡ settleNext room (cut r) x → y ≡ settleCuts (k + 1) c room p
   unfolding settleCuts
-  turn k ex er ey = rw add-one (ey ∙ ap₂ (λ (r : Cut) (x : Put). settleNext c room (cut r) x) er ex)
+  turn k ex er ey = rw add-one (ey ∙ ap₂ (λ (r : Cut) (x : Put). settleNext room (cut r) x) er ex)
 
 abbrev Inv-loop : tie.InvT-loop
 Inv-loop cuts room n q₀ k₀ q k = (k ≤ n) × (q ≡ settleCuts k cuts (length room) q₀)

@@ -2,7 +2,6 @@
 -- nothing.
 use Prim.Native.Nat.{ℕ, _*_}
 use mathlib.Core.Path.{_≡_, sym, _∙_}
-use mathlib.Core.List.{List}
 use borrow.Author.Needs.{needs}
 use borrow.Author.Tests.{eq-eqb, ne-eqb}
 use Rattle.moment.specs.declared.Moment.{Moment}
@@ -15,25 +14,25 @@ use Rattle.shelf.specs.Settled.{settleNext, settleData, settleMoment}
 use Rattle.shelf.proofs.settle.settle_moment.Statement.{statement}
 use Rattle.shelf.proofs.settle.settle_moment.Tie as tie
 
-module _ (c : List ℕ) (room : ℕ) (q : Quantity) (o : OldRadial) (p : Put) {n : ℕ} (gates : n ≡ gatesOf q o) where
-  left-out : n ≡ 0 → p ≡ settleMoment c room q o p
+module _ (room : ℕ) (q : Quantity) (o : OldRadial) (p : Put) {n : ℕ} (gates : n ≡ gatesOf q o) where
+  left-out : n ≡ 0 → p ≡ settleMoment room q o p
   unfolding settleMoment
   left-out e = rw (eq-eqb (gatesOf q o) 0 (sym gates ∙ e))
 
-  two-blocks : (n ≡ 0 → ⊥) → {m : Moment} {x y : Put} → m ≡ momentFrom q (o .resolution) n → x ≡ settleNext c room (moment m) p
-      → y ≡ settleData room (2 * n) x → y ≡ settleMoment c room q o p
+  two-blocks : (n ≡ 0 → ⊥) → {m : Moment} {x y : Put} → m ≡ momentFrom q (o .resolution) n → x ≡ settleNext room (moment m) p
+      → y ≡ settleData room (2 * n) x → y ≡ settleMoment room q o p
   unfolding settleMoment
   two-blocks some em ex ey = rw (ne-eqb (gatesOf q o) 0 (λ e. some (gates ∙ e)), ← gates, ← em, ← ex) ey
 
 returns : tie.Need-returns
-returns c = let a = c .before .before .before .before .args in left-out _ _ (a .q) (a .o) _ (c .before .gates .ensures) (c .if1 .taken)
+returns c = let a = c .before .before .before .args in left-out _ (a .q) (a .o) _ (c .before .gates .ensures) (c .if1 .taken)
 
 returns-2 : tie.Need-returns-2
 returns-2 c =
     let headed = c .before .before in
     let counted = headed .before .before in
-    let a = counted .before .before .before .args in
-    two-blocks (a .cuts .now) _ (a .q) (a .o) (a .p) (counted .gates .ensures) (headed .before .if1 .left) (headed .moment-from .ensures)
+    let a = counted .before .before .args in
+    two-blocks _ (a .q) (a .o) (a .p) (counted .gates .ensures) (headed .before .if1 .left) (headed .moment-from .ensures)
     (c .before .next-moment .ensures) (c .next-data .ensures)
 
 pub settle-moment-spec : {M : Type 1} → statement M

@@ -23,13 +23,13 @@ use Rattle.shelf.proofs.settle.settle_ours.Statement.{statement}
 use Rattle.shelf.proofs.settle.settle_ours.Tie as tie
 
 module _ (g : Generic) (s : Site) (t : Task) (c : List ℕ) (room : ℕ) {x y z : Put} where
-  head : {w : Walk} → w ≡ atStart → x ≡ settledBy due.Generic (takeGeneric g w) true genericSize w room → y ≡ settleNext c room (site s) x
-      → z ≡ settleNext c room (task t) y → z ≡ settleHead g s t c room
+  head : {w : Walk} → w ≡ atStart → x ≡ settledBy due.Generic (takeGeneric g w) true genericSize w room → y ≡ settleNext room (site s) x
+      → z ≡ settleNext room (task t) y → z ≡ settleHead g s t room
   head b ex ey ez =
       let first = goes-on fresh refl (ex ∙ ap (λ (w : Walk). settledBy due.Generic (takeGeneric g w) true genericSize w room) b) in
-      ez ∙ ap (settleNext c room (task t)) (ey ∙ ap (settleNext c room (site s)) first)
+      ez ∙ ap (settleNext room (task t)) (ey ∙ ap (settleNext room (site s)) first)
 
-  whole : z ≡ settleHead g s t c room → x ≡ settleCuts (length c / cutSize) c room z → y ≡ settleRest room (length c % cutSize) x → y ≡ settleOurs g s t c room
+  whole : z ≡ settleHead g s t room → x ≡ settleCuts (length c / cutSize) c room z → y ≡ settleRest room (length c % cutSize) x → y ≡ settleOurs g s t c room
   whole ez ex ey = ey ∙ ap (settleRest room (length c % cutSize)) (ex ∙ ap (settleCuts (length c / cutSize) c room) ez)
 
 returns : tie.Need-returns

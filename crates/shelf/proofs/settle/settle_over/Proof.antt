@@ -24,12 +24,12 @@ use Rattle.shelf.proofs.settle.settle_over.Tie as tie
 
 module _ (c : List ℕ) (room : ℕ) (o : OldRadial) (at : ℕ) (p : Put) (t : p .answer ≡ Taken) {k : Check} (e : k ≡ oldCheck o) where
   fine : k ≡ Fine → {r : Radial} {x y : Put} → r ≡ radialNext o (p .walk)
-      → x ≡ settledBy due.Radial (saysOf (radial r) (front c) (p .walk)) true radialSize (p .walk) room → y ≡ settleMoments c room o x
+      → x ≡ settledBy due.Radial (saysOf (radial r) (front c) (p .walk)) true radialSize (p .walk) room → y ≡ settleMoments room o x
       → y ≡ settleOver c room o at p
   unfolding unlessBad
   fine f er ex ey =
       let headed = goes-on p t (ex ∙ ap (λ (r : Radial). settledBy due.Radial (saysOf (radial r) (front c) (p .walk)) true radialSize (p .walk) room) er) in
-      goes-on p t (rw (sym e ∙ f) (ey ∙ ap (settleMoments c room o) headed))
+      goes-on p t (rw (sym e ∙ f) (ey ∙ ap (settleMoments room o) headed))
 
   broken : (b : Clause) {y : Put} → k ≡ Broken b → y ≡ record { answer = Refused (b .number) at; walk = p .walk } → y ≡ settleOver c room o at p
   unfolding unlessBad
