@@ -1,5 +1,5 @@
 -- The import of an old shelf, by citing the crates `old` and `shelf`, and the tables by computing. Assumes nothing.
-use Prim.Native.Nat.{ℕ, _+_, _*_, _≤_}
+use Prim.Native.Nat.{ℕ, _+_, _≤_}
 use native.Mathlib.Nat.{add-assoc}
 use native.Mathlib.Omega.{arith}
 use mathlib.Core.List.{List, map}
@@ -9,7 +9,6 @@ use lib.ListN.{getD}
 use Rattle.le.specs.Le.{le, part}
 use Rattle.le.proofs.Laws.{le-part}
 use Rattle.gates.specs.Gates.{isMeasurement, otherOf, gateOf, magnitudeOf, roundedOf, toldOf}
-use Rattle.old.specs.declared.codes.Quantity.the-variants.{Reflectivity, Velocity, Width}
 use Rattle.old.specs.Angle.{angleBits}
 use Rattle.old.specs.Codes.{formula, newCode, codingOf}
 use Rattle.old.specs.Headers.{placeOf}

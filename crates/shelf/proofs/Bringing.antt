@@ -7,22 +7,20 @@ use mathlib.Core.Bool.{Bool, true, false}
 use mathlib.Core.List.{List, [], _∷_, _++_, append-nil, append-assoc}
 use mathlib.Core.Logic.{_⊎_, inl, inr, ⊎-elim, dite}
 use mathlib.Core.Path.{_≡_, refl, sym, ap, ap₂, subst⁻¹, _∙_}
-use lib.ListN.{length, take, drop, length-append}
+use lib.ListN.{length, drop}
 use lib.Seq.{drop-at}
 use Rattle.le.specs.Le.{Bytes, patch, run}
 use Rattle.generic.specs.declared.Generic.{Generic}
-use Rattle.generic.specs.Generic.{genericBytes, GenericFits}
+use Rattle.generic.specs.Generic.{GenericFits}
 use Rattle.site.specs.declared.Site.{Site}
-use Rattle.site.specs.Site.{siteBytes, SiteFits}
+use Rattle.site.specs.Site.{SiteFits}
 use Rattle.task.specs.declared.Task.{Task}
-use Rattle.task.specs.Task.{taskBytes, TaskFits}
+use Rattle.task.specs.Task.{TaskFits}
 use Rattle.cut.specs.Cut.{cutAt, cutSize}
-use Rattle.radial.specs.declared.Radial.{Radial}
 use Rattle.gates.specs.Gates.{Values}
 use Rattle.gates.specs.Telling.{Telling, refused}
 use Rattle.walk.specs.declared.due.Walk.{Walk}
 use Rattle.walk.specs.Due.{atStart}
-use Rattle.reading.specs.Reading.{stop, stretches}
 use Rattle.reading.specs.Step.{takeGeneric, takeSite, takeTask, takeCut}
 use Rattle.reading.proofs.Counts.{counted-all}
 use Rattle.reading.proofs.Run.{hoped, settle-took}
@@ -31,13 +29,12 @@ use Rattle.ask.specs.Answers.{gateIn, radialOfFile}
 use Rattle.ask.specs.Growth.{gateAsked}
 use Rattle.writer.specs.declared.order.Answer.{Answer}
 use Rattle.writer.specs.declared.order.Answer.the-variants.{Taken, Refused}
-use Rattle.writer.specs.Agree.{Agrees}
 use Rattle.writer.specs.Block.{Block, generic, site, task, cut, radial, moment, «data», bytesOf}
 use Rattle.writer.specs.Many.{beginning, putAll}
 use Rattle.writer.specs.Put.{Outcome, put}
 use Rattle.writer.proofs.Agreeing.{taking}
 use Rattle.writer.proofs.Runs.{start, read-back}
-use Rattle.retold.specs.Many.{FitsAll, writtenIn, Added}
+use Rattle.retold.specs.Many.{FitsAll, writtenIn}
 use Rattle.retold.specs.Retold.{momentAmong, gateAmong, momentAsked, wholeIn, Retold}
 use Rattle.retold.proofs.Many.{put-append, first, all-added}
 use Rattle.retold.proofs.Retold.{retold}
@@ -49,7 +46,7 @@ use Rattle.old.specs.Shelf.{shelfOk, radialsIn, radialPlace}
 use Rattle.old.proofs.Fitting.{old-fits}
 use Rattle.shelf.specs.Brought.{typeOf, oldCode, Means, HeaderKeeps, MomentKeeps, Radial-kept, Brought}
 use Rattle.shelf.specs.Import.{firstCuts, restOf, ourBlocks, momentsOf, oldRadial, oldBlocks, takeOver, takeFirst, ours, through, refusedWhole, allOrNothing, importOf}
-use Rattle.shelf.proofs.Imported.{Radials, radials, front-stands}
+use Rattle.shelf.proofs.Imported.{radials, front-stands}
 use Rattle.shelf.proofs.Kept.{header-keeps, count-is, moment-keeps, gate-means, no-gate, nowhere, types-apart}
 use Rattle.shelf.proofs.Ours.{join-fits, our-fits, ours-taken}
 use Rattle.shelf.proofs.Over.{Standing, pairs-fit, blocks-fit-all, TakenOver, over-taking, over-added}

@@ -1,12 +1,12 @@
 -- An old file that grows by radials. Assumes nothing.
 use Prim.Native.Nat.{ℕ, zero, suc, _+_, _*_, _≤_}
 use native.Mathlib.Omega.{arith}
-use mathlib.Core.Bool.{Bool, true, cond}
+use mathlib.Core.Bool.{true, cond}
 use mathlib.Core.List.{List, [], _∷_, _++_}
 use mathlib.Core.Path.{_≡_, refl, sym, ap, ap₂, _∙_}
 use lib.Dec.{eqb}
 use lib.ListN.{length, length-append}
-use Rattle.le.specs.Le.{Bytes, part, run}
+use Rattle.le.specs.Le.{Bytes, run}
 use Rattle.le.proofs.Laws.{part-in}
 use Rattle.rules.specs.declared.check.Check.{Check}
 use Rattle.rules.specs.declared.check.Check.the-variants.{Fine, Broken}
@@ -31,7 +31,7 @@ use Rattle.old.specs.Old.{countsOk, oldOf, oldAt, oldCheck}
 use Rattle.old.specs.Shelf.{radialPlace}
 use Rattle.old.proofs.Accepted.{rules-hold}
 use Rattle.old.proofs.Lengths.{within}
-use Rattle.shelf.specs.Import.{momentOf, momentsOf, oldBlocks, unlessBroken, takeOver, takeFirst, ours, refusedWhole, importOf}
+use Rattle.shelf.specs.Import.{momentOf, momentsOf, unlessBroken, takeOver, takeFirst, ours, refusedWhole, importOf}
 use Rattle.shelf.specs.Growth.{ImportGrows}
 use Rattle.shelf.specs.Order.{Radials}
 use Rattle.shelf.proofs.Bringing.{begins}

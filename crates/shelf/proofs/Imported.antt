@@ -23,10 +23,10 @@ use Rattle.writer.proofs.Places.{behind}
 use Rattle.old.specs.Old.{oldAt}
 use Rattle.old.specs.Shelf.{radialsIn, radialPlace}
 use Rattle.retold.specs.Many.{writtenIn}
-use Rattle.shelf.specs.Import.{takeOver, takeFirst, ours, through}
+use Rattle.shelf.specs.Import.{takeFirst, ours, through}
 use Rattle.shelf.specs.Settled.{settleOver, settleFirst, settleOurs, Lay, layOver, layFirst}
-use Rattle.shelf.proofs.Ours.{OursSettle, ours-settle, OursTaken, ours-taken}
-use Rattle.shelf.proofs.Over.{Standing, OverSettles, over-settles, over-taking, over-standing, over-laid}
+use Rattle.shelf.proofs.Ours.{ours-settle, ours-taken}
+use Rattle.shelf.proofs.Over.{Standing, over-settles, over-taking, over-standing, over-laid}
 use Rattle.shelf.proofs.Settling.{putOf}
 
 -- what an outcome leaves to be laid upon

@@ -1,5 +1,5 @@
 -- An old radial that is put block by block is kept: what its header says, and the kind and exact value of every gate. Assumes nothing.
-use Prim.Native.Nat.{ℕ, suc, _+_, _*_, _/_, _%_, _^_, _≤_, _<_}
+use Prim.Native.Nat.{ℕ, _+_, _*_, _/_, _%_, _≤_, _<_}
 use native.Mathlib.Nat.{mod-eq-of-lt}
 use native.Mathlib.Omega.{arith}
 use borrow.Author.Tests.{eq-eqb, ne-eqb, lt-ltb, le-ltb}
@@ -7,7 +7,7 @@ use mathlib.Core.Bool.{Bool, true, false, cond}
 use mathlib.Core.List.{List, [], _∷_, _++_, append-nil}
 use mathlib.Core.Logic.{_⊎_, inl, inr, ⊎-elim}
 use mathlib.Core.Path.{_≡_, refl, sym, ap, ap₂, _∙_}
-use lib.Dec.{eqb, ltb}
+use lib.Dec.{eqb}
 use lib.ListN.{length, getD}
 use Rattle.le.specs.Le.{Bytes, part, run}
 use Rattle.le.proofs.Laws.{length-part}
@@ -15,16 +15,14 @@ use Rattle.rules.specs.declared.check.Check.the-variants.{Fine}
 use Rattle.moment.specs.declared.Moment.{Moment}
 use Rattle.gates.specs.declared.Coding.{Coding}
 use Rattle.gates.specs.Codes.{codesOf}
-use Rattle.gates.specs.Gates.{toldOf, Values, valuesOf}
-use Rattle.gates.specs.Telling.{Telling, refused, answered}
-use Rattle.gates.proofs.Codes.{length-two}
+use Rattle.gates.specs.Gates.{toldOf, valuesOf}
+use Rattle.gates.specs.Telling.{refused, answered}
 use Rattle.ask.specs.Answers as ask
 use Rattle.ask.specs.Answers.{gateIn}
 use Rattle.retold.specs.Retold.{Pair, among, momentAmong, gateAmong}
 use Rattle.old.specs.declared.codes.Quantity.{Quantity}
 use Rattle.old.specs.declared.codes.Quantity.the-variants.{Reflectivity, Velocity, Width}
 use Rattle.old.specs.declared.record.OldRadial.{OldRadial}
-use Rattle.old.specs.Clock.{secondsOf}
 use Rattle.old.specs.Codes.{newBytes, codingOf, meaning}
 use Rattle.old.specs.Headers.{gatesOf, placeOf, oldCodes, momentFrom, momentCount, radialFrom}
 use Rattle.old.specs.Old.{OldFits, oldAt, oldCheck}

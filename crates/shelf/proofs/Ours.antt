@@ -21,13 +21,12 @@ use Rattle.task.specs.declared.Task.{Task}
 use Rattle.task.specs.Task.{taskBytes, TaskFits}
 use Rattle.task.proofs.Trips as task-trip
 use Rattle.cut.specs.declared.Cut.{Cut}
-use Rattle.cut.specs.Cut.{cutAt, cutBytes, cutSize, CutFits}
+use Rattle.cut.specs.Cut.{cutAt, cutSize, CutFits}
 use Rattle.cut.proofs.Trips as cut-trip
 use Rattle.walk.specs.declared.due.Due.{Due}
 use Rattle.walk.specs.declared.due.Due.the-variants as due
 use Rattle.walk.specs.declared.due.Walk.{Walk}
 use Rattle.walk.specs.Due.{cutPlace}
-use Rattle.walk.specs.After.{afterTask, afterCut}
 use Rattle.reading.specs.Step.{takeTask, takeCut}
 use Rattle.reading.proofs.Run.{hoped, settle-took, due-either}
 use Rattle.writer.specs.declared.order.Answer.the-variants.{Taken}
@@ -38,11 +37,11 @@ use Rattle.writer.specs.Many.{beginning, putNext, putAll}
 use Rattle.writer.specs.Put.{Outcome, put}
 use Rattle.writer.proofs.Agreeing.{taking, taken-when}
 use Rattle.writer.proofs.Runs.{start}
-use Rattle.retold.specs.Many.{FitsAll, writtenIn, Added}
+use Rattle.retold.specs.Many.{FitsAll, writtenIn}
 use Rattle.retold.proofs.Many.{put-append, before-taken, next-put, first, all-added}
 use Rattle.shelf.specs.Import.{firstCuts, restOf, cutBlocks, ourBlocks, ours}
-use Rattle.shelf.specs.Settled.{settleNext, settleData, settleCuts, settleRest, settleHead, settleOurs, fresh}
-use Rattle.shelf.proofs.Settling.{putOf, settleAll, settle-append, AllRoomless, Settles, all-settles, Agreed}
+use Rattle.shelf.specs.Settled.{settleNext, settleData, settleCuts, settleRest, settleHead, settleOurs}
+use Rattle.shelf.proofs.Settling.{putOf, settleAll, settle-append, AllRoomless, all-settles, Agreed}
 
 -- ---- their blocks
 

@@ -1,13 +1,12 @@
 -- One old radial: settled as the import takes it over and, where it is taken, what it leaves. Assumes nothing.
-use Prim.Native.Nat.{ℕ, suc, _+_, _-_, _*_, _%_, _^_, _≤_, _<_}
+use Prim.Native.Nat.{ℕ, _+_, _-_, _*_, _≤_, _<_}
 use native.Mathlib.Omega.{arith}
-use borrow.Author.Tests.{ne-eqb}
 use mathlib.Core.Bool.{Bool, true, false, cond}
 use mathlib.Core.List.{List, [], _∷_, _++_, append-assoc}
 use mathlib.Core.Path.{_≡_, refl, sym, ap, ap₂, subst⁻¹, _∙_}
 use lib.Dec.{eqb}
-use lib.ListN.{length, take, replicate, length-append}
-use Rattle.le.specs.Le.{Bytes, part, run, stored}
+use lib.ListN.{length, replicate}
+use Rattle.le.specs.Le.{Bytes, part, run}
 use Rattle.le.proofs.Laws.{length-part, part-past, part-in, part-take, stored-in}
 use Rattle.rules.specs.declared.check.Check.{Check}
 use Rattle.rules.specs.declared.check.Check.the-variants.{Fine, Broken}
@@ -24,7 +23,7 @@ use Rattle.reading.proofs.Run.{took-inj}
 use Rattle.writer.specs.declared.order.Answer.{Answer}
 use Rattle.writer.specs.declared.order.Answer.the-variants.{Taken, Refused}
 use Rattle.writer.specs.declared.order.Put.{Put}
-use Rattle.writer.specs.Agree.{written, Agrees}
+use Rattle.writer.specs.Agree.{Agrees}
 use Rattle.writer.specs.Block.{Block, radial, moment, «data», bytesOf}
 use Rattle.writer.specs.Many.{unlessRefused, putNext, putAll}
 use Rattle.writer.specs.Put.{Outcome, put}
@@ -44,8 +43,8 @@ use Rattle.old.specs.Old.{OldFits, oldAt, oldCheck}
 use Rattle.old.proofs.Back.{new-length}
 use Rattle.old.proofs.Fitting.{old-fits, radial-fits, moment-fits}
 use Rattle.shelf.specs.Import.{momentOf, momentsOf, oldRadial, oldBlocks, unlessBroken, takeOver}
-use Rattle.shelf.specs.Settled.{unless, front, settleIn, settleNext, settleData, counted, radialNext, settleMoment, settleMoments, unlessBad, settleOver, Lay, laidBytes, laidIf, bytesNext, settledOver, layOver}
-use Rattle.shelf.proofs.Settling.{putOf, settleAll, settle-append, Agreed, AllRoomless, Settles, next, first-settles, all-settles}
+use Rattle.shelf.specs.Settled.{unless, front, settleIn, settleNext, settleData, counted, radialNext, settleMoment, settleMoments, unlessBad, settleOver, laidBytes, laidIf, bytesNext, settledOver, layOver}
+use Rattle.shelf.proofs.Settling.{putOf, settleAll, settle-append, AllRoomless, Settles, next, first-settles, all-settles}
 use Rattle.shelf.proofs.Walks.{small, cut-known}
 
 -- ---- its blocks

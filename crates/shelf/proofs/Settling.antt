@@ -7,18 +7,16 @@ use mathlib.Core.List.{List, [], _∷_, _++_}
 use mathlib.Core.Path.{_≡_, refl, sym, ap, subst⁻¹, _∙_}
 use lib.Dec.{ltb}
 use lib.ListN.{length}
-use Rattle.le.specs.Le.{patch}
 use Rattle.le.proofs.Laws.{length-patch}
 use Rattle.walk.specs.declared.due.Due.the-variants as due
 use Rattle.walk.specs.declared.due.Walk.{Walk}
 use Rattle.walk.specs.Due.{isEnd}
 use Rattle.reading.specs.declared.step.Step.{Step}
-use Rattle.reading.specs.Step.{cutIn, sayRadial}
 use Rattle.writer.specs.declared.order.Answer.{Answer}
 use Rattle.writer.specs.declared.order.Answer.the-variants.{Taken, Refused}
 use Rattle.writer.specs.declared.order.Put.{Put}
 use Rattle.writer.specs.Agree.{Agrees, sameKind}
-use Rattle.writer.specs.Block.{Block, generic, site, task, cut, radial, moment, «data», kindOf, saysOf, fitsOf, lengthOf, bytesOf}
+use Rattle.writer.specs.Block.{Block, kindOf, saysOf, fitsOf, lengthOf, bytesOf}
 use Rattle.writer.specs.Many.{unlessRefused, putNext, putAll}
 use Rattle.writer.specs.Put.{Outcome, answerTo, settled, settledBy, outcome, putOn, put}
 use Rattle.writer.specs.Trips.{Fits}
@@ -27,9 +25,8 @@ use Rattle.writer.proofs.EachKind.{long}
 use Rattle.writer.proofs.Putting.{passed}
 use Rattle.writer.proofs.Same.{kind-is}
 use Rattle.retold.specs.Many.{FitsAll}
-use Rattle.retold.proofs.Many.{before-taken, next-put}
+use Rattle.retold.proofs.Many.{next-put}
 use Rattle.shelf.specs.Settled.{unless, front, settleIn}
-use Rattle.cut.specs.declared.Cut.{Cut}
 
 -- an outcome but for its room
 abbrev pub putOf : Outcome → Put

@@ -6,7 +6,7 @@ use mathlib.Core.Path.{_≡_, refl, subst}
 use mathlib.Core.Bool.{Bool, true, false}
 use mathlib.Core.List.{List}
 use borrow.Author.Tests.{ltb-true}
-use lib.Dec.{leb, ltb}
+use lib.Dec.{ltb}
 use Rattle.rules.specs.Ranges.{mostRadials, mostSequence}
 use Rattle.rules.proofs.Allowed.{cuts-allowed}
 use Rattle.rules.proofs.Judged.{all-hold}

@@ -1,6 +1,6 @@
 -- What an import that is taken has brought over (document 02, #102), by what our questions answer of the volume that is then written.
 use Prim.Native.Nat.{ℕ, suc, _+_, _*_, _/_, _%_, _≤_, _<_}
-use mathlib.Core.List.{List, [], _∷_, _++_}
+use mathlib.Core.List.{List, _++_}
 use mathlib.Core.Path.{_≡_}
 use lib.ListN.{length, getD, drop, replicate}
 use Rattle.moment.specs.declared.Moment.{Moment}
@@ -16,7 +16,6 @@ use Rattle.gates.specs.Telling.{Telling, refused, answered}
 use Rattle.reading.specs.Reading.{stretches}
 use Rattle.ask.specs.Answers.{radialOfFile}
 use Rattle.ask.specs.Growth.{gateAsked}
-use Rattle.writer.specs.declared.order.Answer.the-variants.{Taken}
 use Rattle.writer.specs.Block.{Block}
 use Rattle.writer.specs.Many.{beginning, putAll}
 use Rattle.writer.specs.Put.{Outcome}
@@ -31,7 +30,6 @@ use Rattle.old.specs.Codes.{Meaning, meaning, Says}
 use Rattle.old.specs.Headers.{gatesOf, placeOf}
 use Rattle.old.specs.Old.{oldAt}
 use Rattle.old.specs.Shelf.{radialsIn, radialPlace}
-use Rattle.shelf.specs.Import.{importOf}
 
 -- ---- a gate
 

@@ -13,7 +13,6 @@ use Rattle.writer.specs.Many.{putAll}
 use Rattle.old.specs.declared.record.OldRadial.{OldRadial}
 use Rattle.old.specs.Clock.{secondsOf}
 use Rattle.old.specs.Old.{oldAt}
-use Rattle.old.specs.Shelf.{radialPlace}
 use Rattle.shelf.specs.Import.{oldBlocks, takeFirst, ours, refusedWhole, importOf}
 
 -- ---- an old radial's own numbers, in words of their own

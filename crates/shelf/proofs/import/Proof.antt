@@ -1,8 +1,6 @@
 -- `import` meets its promise: another length is refused first, a refusal that is settled leaves the room as it was, and what is settled
 -- to the end is laid down. Assumes nothing.
-use mathlib.Core.Path.{_≡_}
 use borrow.Author.Needs.{needs}
-use Rattle.le.specs.Le.{Bytes}
 use Rattle.generic.specs.Generic.{GenericFits}
 use Rattle.site.specs.Site.{SiteFits}
 use Rattle.task.specs.Task.{TaskFits}
