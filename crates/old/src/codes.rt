@@ -61,7 +61,10 @@ fn put_codes_here(room: &mut [u8], at: usize, codes: &[u8])
 {
     let mut i = 0;
     while i < codes.len() {
-        le::put_u16(room, at + 2 * i, code(codes[i]));
+        let x = code(codes[i]);
+        let to = at + 2 * i;
+        room[to] = (x % 256) as u8;
+        room[to + 1] = (x / 256 % 256) as u8;
         i += 1;
     }
 }

@@ -1,11 +1,11 @@
 -- The loop's invariant: the first i codes stand in `room` at `at`. Assumes nothing.
-use mathlib.Core.Path.{_≡_, refl, _∙_, ap}
-use Prim.Native.Nat.{ℕ, _+_, _-_, _*_, _≤_, zero-le}
+use mathlib.Core.Path.{_≡_, refl, ap, _∙_}
+use Prim.Native.Nat.{ℕ, _+_, _-_, _*_, _/_, _%_, _≤_, zero-le}
 use native.Mathlib.Omega.{arith}
-use lib.ListN.{length, take, getD}
+use lib.ListN.{length, take, length-set}
 use lib.Seq.{take-length}
-use Rattle.le.specs.Le.{patch, stored, bytes, run}
-use Rattle.le.proofs.Laws.{laid-first, run-none, run-turn}
+use Rattle.le.specs.Le.{patch, bytes, run}
+use Rattle.le.proofs.Laws.{run-none, run-turn, stores2}
 use Rattle.old.specs.Codes.{newBytes}
 use Rattle.old.proofs.Back.{two}
 use Rattle.old.proofs.codes.put_codes_here.Statement.{statement}
@@ -23,22 +23,20 @@ loop-holds c =
     let a = c .before .before .args in
     (zero-le, run-none newBytes 2 two (a .room .now) (a .at) (a .codes .now), refl)
 
+within : tie.Need-slice-write-room-2 Inv-loop μ-loop
+within c = simp length-set (omega arith)
+
 loop-again : tie.Need-loop-again Inv-loop μ-loop
-unfolding newBytes
+unfolding newBytes bytes
 loop-again c =
-    let p = c .before .before in
-    let l = p .before .before .before .before .before .loop in
-    let a = p .before .before .before .before .before .before .before .before .args in
+    let l = c .before .before .before .loop in
+    let a = c .before .before .before .before .before .before .args in
     let at = a .at + 2 * l .i in
-    let v = getD (a .codes .now) (l .i) 0 in
-    let g = p .put-u16 .last .0 in
-    let put : g ≡ stored 2 (l .room) at (newBytes v) =
-    p .put-u16 .ensures ∙ ap (λ (y : ℕ). stored 2 (l .room) at (bytes 2 y)) (p .before .code .ensures) in
-    let laid = laid-first at 2 put (two v) (omega arith) in (
+    let put = stores2 (l .room) at (c .code .result % 256) (c .code .result / 256 % 256) (omega arith)
+    ∙ ap (λ (x : ℕ). patch (l .room) at (bytes 2 x)) (c .code .ensures) in (
       omega arith,
-      run-turn newBytes 2 two (a .room .now) (l .room) g (a .at) (a .codes .now) (l .i) 0
-          (omega arith) (omega arith) (l .inv .1) (laid .is),
-      laid .same ∙ l .inv .2,
+      run-turn newBytes 2 two (a .room .now) (l .room) _ (a .at) (a .codes .now) (l .i) 0 (omega arith) (omega arith) (l .inv .1) put,
+      simp length-set (l .inv .2),
     )
 
 returns : tie.Need-returns Inv-loop μ-loop
@@ -55,6 +53,6 @@ put-codes-here-spec =
     Inv-loop
     μ-loop
     loop-holds
-    (λ c. omega arith) (λ c. omega arith) (λ c. omega arith) (λ c κs. omega arith)
-    (λ c κs. omega arith) (λ c. omega arith) (λ c. omega arith)
+    (λ c. omega arith) (λ c κs. omega arith) (λ c. omega arith) (λ c. omega arith) (λ c. omega arith) (λ c. omega arith) (λ c. omega arith)
+    (λ c. omega arith) within (λ c. omega arith) (λ c. omega arith)
     loop-again (λ c. omega arith) returns)
