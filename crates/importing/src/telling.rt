@@ -6,24 +6,10 @@ use printing::first;
 use printing::newline;
 use printing::number;
 use printing::print_verdict;
+use printing::sum;
 use printing::word;
 use reading::Reading;
 use reading::Verdict;
-
-fn mixed(sum: u32, byte: u8) -> u32 {
-    ((31 * (sum as u64) + (byte as u64)) % 4294967296) as u32
-}
-
-// The bytes of a room in one number, which a change of any one byte changes.
-fn sum(s: &[u8]) -> u32 {
-    let mut n = 0;
-    let mut i = 0;
-    while i < s.len() {
-        n = mixed(n, s[i]);
-        i += 1;
-    }
-    n
-}
 
 fn print_sum(room: &[u8]) {
     number(sum(room) as u64);

@@ -2,6 +2,7 @@
 ghost use mathlib.Core.Path.{_≡_};
 ghost use lib.IntN.{natAbs};
 ghost use lib.ListN.{take, drop};
+ghost use Rattle.printing.specs.Sum.{mixedOf, sumFrom};
 use gates::Counts;
 use libc::STDOUT_FILENO;
 use listing::Cursor;
@@ -91,6 +92,25 @@ pub fn bare_verdict(v: Verdict) {
 pub fn print_verdict(v: Verdict) {
     word(b" ");
     bare_verdict(v);
+}
+
+fn mixed(sum: u32, byte: u8) -> u32
+    ensures { λ r. ⌜ r ≡ mixedOf sum byte ⌝ }
+{
+    ((31 * (sum as u64) + (byte as u64)) % 0x1_0000_0000) as u32
+}
+
+// The bytes of a room in one number, which a change of any one byte changes.
+pub fn sum(s: &[u8]) -> u32
+    ensures { λ r. ⌜ r ≡ sumFrom 0 (now (s .entry)) ⌝ }
+{
+    let mut n = 0;
+    let mut i = 0;
+    while i < s.len() {
+        n = mixed(n, s[i]);
+        i += 1;
+    }
+    n
 }
 
 // A number behind a sign.

@@ -7,7 +7,6 @@ mod telling;
 mod volumes;
 
 use crate::telling::print_bytes;
-use crate::telling::sum;
 use crate::telling::yes;
 use crate::volumes::put_cut;
 use crate::volumes::put_front;
@@ -18,6 +17,7 @@ use printing::first;
 use printing::newline;
 use printing::number;
 use printing::refused;
+use printing::sum;
 use printing::word;
 use walk::due::Walk;
 

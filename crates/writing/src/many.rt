@@ -3,7 +3,6 @@
 use crate::records;
 use crate::records::Facts;
 use crate::telling::print_bytes;
-use crate::telling::sum;
 use crate::telling::yes;
 use crate::volumes::put_cut;
 use crate::volumes::put_front;
@@ -15,6 +14,7 @@ use printing::newline;
 use printing::number;
 use printing::print_reading;
 use printing::refused;
+use printing::sum;
 use printing::word;
 use reading::step::Step;
 use reading::take;

@@ -3,6 +3,7 @@ use libc::STDOUT_FILENO;
 use printing::newline;
 use printing::number;
 use printing::refused;
+use printing::sum;
 use printing::word;
 use walk::due::Walk;
 use writer::order::Answer;
@@ -14,21 +15,6 @@ pub(crate) fn yes(b: bool) {
     } else {
         word(b" no");
     }
-}
-
-fn mixed(sum: u32, byte: u8) -> u32 {
-    ((31 * (sum as u64) + (byte as u64)) % 4294967296) as u32
-}
-
-// The bytes of a room in one number, which a change of any one byte changes.
-pub(crate) fn sum(s: &[u8]) -> u32 {
-    let mut n = 0;
-    let mut i = 0;
-    while i < s.len() {
-        n = mixed(n, s[i]);
-        i += 1;
-    }
-    n
 }
 
 fn print_byte(byte: u8) {
