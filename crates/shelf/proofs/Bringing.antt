@@ -44,7 +44,7 @@ use Rattle.old.specs.Headers.{gatesOf, radialFrom}
 use Rattle.old.specs.Old.{oldAt}
 use Rattle.old.specs.Shelf.{shelfOk, radialsIn, radialPlace}
 use Rattle.old.proofs.Fitting.{old-fits}
-use Rattle.shelf.specs.Brought.{typeOf, oldCode, Means, HeaderKeeps, MomentKeeps, Radial-kept, Brought}
+use Rattle.shelf.specs.Brought.{typeOf, oldCode, Means, HeaderKeeps, MomentKeeps, RadialKeeps, Brought}
 use Rattle.shelf.specs.Import.{firstCuts, restOf, ourBlocks, momentsOf, oldRadial, oldBlocks, takeOver, takeFirst, ours, through, refusedWhole, allOrNothing, importOf}
 use Rattle.shelf.proofs.Imported.{radials, front-stands}
 use Rattle.shelf.proofs.Kept.{header-keeps, count-is, moment-keeps, gate-means, no-gate, nowhere, types-apart}
@@ -200,7 +200,7 @@ module _ (c f : List ℕ) (bytes : Bytes f) (o : Outcome) (h : Standing c o) (no
     none-is : (y i : ℕ) → ((q : Quantity) → (typeOf q ≡ y → ⊥) ⊎ (gatesOf q (oldAt f (radialPlace k)) ≡ 0)) → gateAsked (writtenIn (takeFirst n f o)) (suc k) y i ≡ refused 31 0
     none-is y i none = gate-is y i ∙ nowhere (oldAt f (radialPlace k)) f (radialPlace k) (λ x d. gateIn x d i) (refused 31 0) y none
 
-    pub kept-here : Radial-kept f k (writtenIn (takeFirst n f o))
+    pub kept-here : RadialKeeps f k (writtenIn (takeFirst n f o))
     unfolding radialFrom
     kept-here =
         let at = radialPlace k in
@@ -219,13 +219,13 @@ module _ (c f : List ℕ) (bytes : Bytes f) (o : Outcome) (h : Standing c o) (no
 -- ---- all of it
 
 -- what is put is put block by block
-record Put-as (room : List ℕ) (o : Outcome) : Type 0 where
+record PutAs (room : List ℕ) (o : Outcome) : Type 0 where
   blocks : List Block
   fit : FitsAll blocks
   is : o ≡ putAll blocks (beginning room)
 
-module _ (c f room : List ℕ) (bytes : Bytes f) (o : Outcome) (h : Standing c o) (b : Put-as room o) where
-  put-as : (k : ℕ) → takeFirst k f o .answer ≡ Taken → Put-as room (takeFirst k f o)
+module _ (c f room : List ℕ) (bytes : Bytes f) (o : Outcome) (h : Standing c o) (b : PutAs room o) where
+  put-as : (k : ℕ) → takeFirst k f o .answer ≡ Taken → PutAs room (takeFirst k f o)
   unfolding takeFirst
   put-as zero t = b
   put-as (suc k) t =

@@ -74,7 +74,7 @@ pub record MomentKeeps (told : Telling Moment) : Type 0 where
 
 -- the radial of the old file with k before it, in a volume, by the questions on its sequence number. Each gate of each of its moments is
 -- answered, and no other: a moment has as many gates as the old one, one of 0 gates is left out, and there is no other type.
-pub record Radial-kept (f : List ℕ) (k : ℕ) (volume : List ℕ) : Type 0 where
+pub record RadialKeeps (f : List ℕ) (k : ℕ) (volume : List ℕ) : Type 0 where
   pub there : radialOfFile volume (suc k) .number ≡ 0
   pub sequence : radialOfFile volume (suc k) .header .sequence ≡ suc k
   pub header : HeaderKeeps (oldAt f (radialPlace k)) (radialOfFile volume (suc k) .header)
@@ -100,4 +100,4 @@ pub record Brought (g : Generic) (s : Site) (t : Task) (c f room : List ℕ) (o 
   pub ours : writtenIn o ≡ genericBytes g ++ siteBytes s ++ taskBytes t ++ c ++ radial-bytes
   pub behind : drop (o .walk .at) (o .room) ≡ drop (o .walk .at) room
   pub radials : length (stretches (writtenIn o)) ≡ radialsIn (length f)
-  pub each : (k : ℕ) → k < radialsIn (length f) → Radial-kept f k (writtenIn o)
+  pub each : (k : ℕ) → k < radialsIn (length f) → RadialKeeps f k (writtenIn o)
