@@ -27,6 +27,15 @@ SAME_KINDS, ENOUGH_KINDS = 'eqb (length k) (length codes)', 'leb (length codes) 
 SAME_HUNDREDTHS, ENOUGH_HUNDREDTHS = 'eqb (length h) (length codes)', 'leb (length codes) (length h)'
 ONE_BYTE, TWO_BYTES = 'cond (bit sizes t) true (is 1 (short bin))', 'cond (bit sizes t) (is 2 (short bin)) true'
 CHECKED, COMPARE = (f'crates/decoded/proofs/{path}.antt' for path in ('Checked', 'compare/Proof'))
+OLD, CODES, HEADERS = (f'crates/old/specs/{name}.antt' for name in ('Old', 'Codes', 'Headers'))
+KEPT, TRIED = (f'crates/old/proofs/{name}.antt' for name in ('Kept', 'Numbers'))
+OLD_RECORD, OLD_HEADERS = (f'crates/old/src/{name}.rt' for name in ('record', 'headers'))
+BROKEN, AT, AT_END = 'answer = Refused (c .number) ', 'at;', '(before .walk .at);'
+
+
+def swapped(path, one, other):
+    return [(path, one, '\0'), (path, other, one), (path, '\0', other)]
+
 
 SLIPS = {
     # every radial judged by the masks of cut 1 (numbers 20 and 23)
@@ -40,6 +49,10 @@ SLIPS = {
         ('crates/writer/proofs/EachKind.antt', OWN, FIRST),
         ('crates/writer/proofs/Places.antt', OWN, FIRST),
         ('crates/writer/proofs/on/radial_on/Proof.antt', OWN, FIRST),
+        ('crates/shelf/src/settle.rt', OWN_CUT, FIRST_CUT),
+        ('crates/shelf/proofs/settle/settle_radial/Proof.antt', OWN, FIRST),
+        ('crates/shelf/proofs/Over.antt', OWN, FIRST),
+        ('crates/shelf/proofs/Over.antt', 'let k = 256 * (w .count .cut - 1) in', 'let k : ℕ = 0 in'),
     ],
     # the sequence counted from the cut's start (number 12)
     'sequence_from_the_cut': [
@@ -96,6 +109,8 @@ SLIPS = {
         ('crates/rules/proofs/Four.antt', 'negsuc 1)', 'negsuc 2)'),
         ('crates/rules/proofs/Four.antt', '0x4000_0000', '0x4040_0000'),
         ('crates/rules/proofs/angles/elevation_ok/Proof.antt', '0xC000_0000', '0xC040_0000'),
+        ('crates/old/proofs/Fine.antt', 'negsuc 1)', 'negsuc 2)'),
+        ('crates/old/proofs/Fine.antt', '2 * down e', '3 * down e'),
     ],
     # a code over a scale of 0 told as 1 (document 02, #105)
     'one_over_zero': [
@@ -252,6 +267,7 @@ SLIPS = {
     'bin_length_of_four': [
         ('crates/moment/specs/Moment.antt', 'rule 12 2 23', 'rule 12 4 23'),
         ('crates/moment/src/lib.rt', 'Self::BIN_LENGTH as u8,\n            2,', 'Self::BIN_LENGTH as u8,\n            4,'),
+        ('crates/old/proofs/Moments.antt', 'rule 12 2 23', 'rule 12 4 23'),
         ('crates/citing/proofs/Whys.antt', '(inl refl, (inr refl, tt))', '(inr refl, (inr refl, tt))'),
     ],
     # the place of the scale cited for the offset (document 02, #104)
@@ -272,6 +288,73 @@ SLIPS = {
         ('crates/walk/specs/After.antt', 'left = r .«length_of_data»; seen = 0;', 'left = r .«length_of_data»; seen = w .rest .seen;'),
         ('crates/walk/src/after.rt', 'left: r.length_of_data as usize,\n            seen: 0,',
          'left: r.length_of_data as usize,\n            seen: w.rest.seen,'),
+    ],
+    # the resolution of an old radial at byte 72 (document 02, #102)
+    'resolution_at_72': [
+        (OLD, 'resolution = le 2 b 70', 'resolution = le 2 b 72'),
+        (OLD_RECORD, 'RESOLUTION: usize = 70', 'RESOLUTION: usize = 72'),
+    ],
+    # the codes of width before those of velocity (document 02, #102)
+    'width_before_velocity': [
+        *swapped(HEADERS, 'oldHeader + o .reflectivity\n', 'oldHeader + o .reflectivity + o .doppler\n'),
+        *swapped(OLD_HEADERS, 'DATA + o.reflectivity as usize,', 'DATA + o.reflectivity as usize + o.doppler as usize,'),
+        ('crates/old/proofs/headers/place/Proof.antt', 'c .before .before .enum-told3', 'c .before .enum-told3'),
+        ('crates/old/proofs/headers/place/Proof.antt', 'c .before .enum-told2', 'c .before .before .enum-told2'),
+    ],
+    # 52 asked before 62 (document 02, #102)
+    'counts_before_time': [
+        *swapped(OLD, '62 (timeClauses (o .day) (o .milliseconds))', '52 (countsClauses (o .reflectivity) (o .doppler))'),
+        *swapped(OLD_RECORD, 'clock::time_breaks(self.day, self.milliseconds),\n            62,',
+                 'counts_breaks(self.reflectivity, self.doppler),\n            52,'),
+        *swapped('crates/old/proofs/record/OldRadial/check/Proof.antt', '.time-breaks', '.counts-breaks'),
+        *swapped('crates/old/proofs/Accepted.antt', 'rules-hold o ok .1 .0', 'rules-hold o ok .1 .1 .0'),
+        (TRIED, '51 ∷ 62 ∷ 52', '51 ∷ 52 ∷ 52'),
+        ('crates/shelf/proofs/Kept.antt', 'rules-hold o fine .1 .0', 'rules-hold o fine .1 .1 .0'),
+        ('crates/shelf/proofs/Growing.antt', 'rules-hold (oldAt A at) e .1 .1 .0', 'rules-hold (oldAt A at) e .1 .0'),
+        ('crates/shelf/proofs/lay/lay_over/Proof.antt', '∙ t)) .1 .1 .0', '∙ t)) .1 .0'),
+        *swapped('crates/shelf/proofs/Ordering.antt', 'in-time o (h .time)', 'well-counted o (h .counts)'),
+    ],
+    # an old radial's own number told at the end of the new volume (document 02, #102)
+    'own_number_at_the_end': [
+        ('crates/shelf/specs/Import.antt', BROKEN + AT, BROKEN + AT_END),
+        ('crates/shelf/specs/Settled.antt', BROKEN + AT, BROKEN + AT_END),
+        ('crates/shelf/src/settle.rt', 'refused(c.number, at, w)', 'refused(c.number, w.at, w)'),
+        ('crates/shelf/proofs/settle/settle_over/Proof.antt', 'Refused (b .number) at;', 'Refused (b .number) (p .walk .at);'),
+        ('crates/shelf/proofs/Over.antt', 'Refused (b .number) at ≡ Taken', 'Refused (b .number) (o .walk .at) ≡ Taken'),
+    ],
+    # codes raised by 4, with the offsets (document 02, #102): every value is kept
+    'raised_by_four': [
+        (CODES, 'v (v + 3)', 'v (v + 4)'),
+        (CODES, 'offset = 69', 'offset = 70'),
+        (CODES, 'offset = 132', 'offset = 133'),
+        ('crates/old/src/codes.rt', 'v as u16 + 3', 'v as u16 + 4'),
+        ('crates/old/src/codes.rt', 'offset: 69', 'offset: 70'),
+        ('crates/old/src/codes.rt', 'offset: 132', 'offset: 133'),
+        (KEPT, 'v + 3', 'v + 4'),
+        (KEPT, 'w + 5', 'w + 6'),
+        (KEPT, 'offset = 132', 'offset = 133'),
+        ('crates/old/proofs/Fitting.antt', '≤ 132', '≤ 133'),
+        ('crates/old/proofs/Fitting.antt', '132 ≤', '133 ≤'),
+        (TRIED, '5 ∷ 257 ∷ 258', '6 ∷ 258 ∷ 259'),
+    ],
+    # velocity of scale 2 whatever the resolution (document 02, #102)
+    'velocity_in_halves': [
+        (CODES, 'scale = cond (eqb resolution 4) 1 2', 'scale = cond (eqb resolution 4) 2 2'),
+        ('crates/old/src/codes.rt', 'if resolution == 4 { 1 } else { 2 }', 'if resolution == 4 { 2 } else { 2 }'),
+        ('crates/old/proofs/Fitting.antt', 'cond b 1 2', 'cond b 2 2'),
+        (KEPT, 'scale = cond b 1 2', 'scale = cond b 2 2'),
+        (KEPT, 'scale = 1', 'scale = 2'),
+    ],
+    # flags of 1 in the header of a moment (document 02, #102)
+    'flags_of_one': [
+        (HEADERS, 'flags = 0', 'flags = 1'),
+        (OLD_HEADERS, 'flags: 0', 'flags: 1'),
+    ],
+    # 86,400 seconds for each day, day 1 among them (document 02, #102)
+    'days_from_zero': [
+        ('crates/old/specs/Clock.antt', '86400 * (day - 1) +', '86400 * day +'),
+        ('crates/old/src/clock.rt', '86400 * (day as u64 - 1) +', '86400 * (day as u64) +'),
+        (TRIED, '1 ∷ 0 ∷ 0 ∷ 2 ∷ 0 ∷ 0 ∷ 3 ∷ 3', '1 ∷ 0 ∷ 0 ∷ 2 ∷ 3 ∷ 3 ∷ 3 ∷ 3'),
     ],
 }
 
