@@ -2,6 +2,7 @@
 use Prim.Native.Nat.{ℕ, _+_, _≤_}
 use native.Mathlib.Nat.{add-assoc}
 use native.Mathlib.Omega.{arith}
+use borrow.Author.Tests.{eq-eqb, ne-eqb}
 use mathlib.Core.List.{List, map}
 use mathlib.Core.Path.{_≡_, refl, ap, _∙_}
 use lib.Ieee.{toBits, round, units, odd, size}
@@ -9,14 +10,16 @@ use lib.ListN.{getD}
 use Rattle.le.specs.Le.{le, part}
 use Rattle.le.proofs.Laws.{le-part}
 use Rattle.gates.specs.Gates.{isMeasurement, otherOf, gateOf, magnitudeOf, roundedOf, toldOf}
+use Rattle.old.specs.declared.record.OldRadial.{OldRadial}
 use Rattle.old.specs.Angle.{angleBits}
 use Rattle.old.specs.Codes.{formula, newCode, codingOf}
-use Rattle.old.specs.Headers.{placeOf}
+use Rattle.old.specs.Headers.{gatesOf, placeOf, momentFrom}
 use Rattle.old.specs.Old.{oldOf, oldAt}
+use Rattle.shelf.specs.Import.{momentOf}
 use Rattle.shelf.proofs.Bringing.{taken-all}
 use Rattle.shelf.proofs.Growing.{grows}
 use Rattle.shelf.proofs.Ordering.{ordered}
-use Rattle.demands.specs.Imports.{two, four, Fields, Worth, computed, table, Angles, Imports}
+use Rattle.demands.specs.Imports.{two, four, Fields, InOrder, Worth, computed, table, Angles, Imports}
 
 -- ---- the fields
 
@@ -53,6 +56,17 @@ module _ (f : List ℕ) (at : ℕ) where
         third-codes = λ i. ap (λ (n : ℕ). getD f n 0) (omega arith);
       }
 
+-- ---- the order of the moments
+
+in-order : (o : OldRadial) (f : List ℕ) (at : ℕ) → InOrder o f at
+unfolding momentOf gatesOf momentFrom codingOf
+in-order o f at =
+    record {
+      all = λ r d. rw (ne-eqb (o .reflectivity) 0 (λ z. omega arith), ne-eqb (o .doppler) 0 (λ z. omega arith));
+      reflectivity-alone = λ r d. rw (ne-eqb (o .reflectivity) 0 (λ z. omega arith), eq-eqb (o .doppler) 0 d);
+      doppler-alone = λ r d. rw (eq-eqb (o .reflectivity) 0 r, ne-eqb (o .doppler) 0 (λ z. omega arith));
+    }
+
 -- ---- the tables
 
 worth : Worth
@@ -85,6 +99,7 @@ pub imports : Imports
 imports =
     record {
       fields = fields;
+      in-order = in-order;
       worth = worth;
       worked = worked;
       angles = angles;

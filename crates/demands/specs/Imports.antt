@@ -1,6 +1,6 @@
 -- The import of an old shelf (document 02, #102): what it reads of an old file, in which order it is refused, and what it has brought
 -- over where it is taken. That a refusal leaves everything as it was, and that its promise leaves no choice, is in `One`.
-use Prim.Native.Nat.{ℕ, _+_, _*_}
+use Prim.Native.Nat.{ℕ, _+_, _*_, _<_}
 use mathlib.Core.List.{List, [], _∷_, _++_, map}
 use mathlib.Core.Path.{_≡_}
 use lib.IntN.{ℤ, pos, negsuc}
@@ -16,12 +16,13 @@ use Rattle.gates.specs.Gates.{kindOf, toldOf}
 use Rattle.writer.specs.declared.order.Answer.the-variants.{Taken}
 use Rattle.old.specs.declared.codes.Quantity.{Quantity}
 use Rattle.old.specs.declared.codes.Quantity.the-variants.{Reflectivity, Velocity, Width}
+use Rattle.old.specs.declared.record.OldRadial.{OldRadial}
 use Rattle.old.specs.Angle.{angleBits}
 use Rattle.old.specs.Codes.{over, Same, formula, newCode, codingOf}
 use Rattle.old.specs.Old.{oldAt}
 use Rattle.shelf.specs.Brought.{oldCode, Brought}
 use Rattle.shelf.specs.Growth.{ImportGrows}
-use Rattle.shelf.specs.Import.{importOf}
+use Rattle.shelf.specs.Import.{momentsOf, importOf}
 use Rattle.shelf.specs.Order.{Radials, Ordered}
 
 -- ---- what is read of an old radial
@@ -49,6 +50,15 @@ pub record Fields (f : List ℕ) (at : ℕ) : Type 0 where
   pub first-codes : (i : ℕ) → oldCode Reflectivity f at i ≡ getD f (at + 128 + i) 0
   pub second-codes : (i : ℕ) → oldCode Velocity f at i ≡ getD f (at + 128 + two f (at + 54) + i) 0
   pub third-codes : (i : ℕ) → oldCode Width f at i ≡ getD f (at + 128 + two f (at + 54) + two f (at + 56) + i) 0
+
+-- the moments that are put of it, by their types, in this order; one of 0 gates is left out
+abbrev pub typesOf : OldRadial → List ℕ → ℕ → List ℕ
+typesOf o f at = map (λ p. p .header .«data_type») (momentsOf o f at)
+
+pub record InOrder (o : OldRadial) (f : List ℕ) (at : ℕ) : Type 0 where
+  pub all : 0 < o .reflectivity → 0 < o .doppler → typesOf o f at ≡ 2 ∷ 3 ∷ 4 ∷ []
+  pub reflectivity-alone : 0 < o .reflectivity → o .doppler ≡ 0 → typesOf o f at ≡ 2 ∷ []
+  pub doppler-alone : o .reflectivity ≡ 0 → 0 < o .doppler → typesOf o f at ≡ 3 ∷ 4 ∷ []
 
 -- ---- what a code is worth, worked out by hand from document 003
 
@@ -119,6 +129,7 @@ Angles =
 
 pub record Imports : Type 0 where
   pub fields : (f : List ℕ) (at : ℕ) → Fields f at
+  pub in-order : (o : OldRadial) (f : List ℕ) (at : ℕ) → InOrder o f at
   pub worth : Worth
   pub worked : map computed table ≡ table
   pub angles : Angles
