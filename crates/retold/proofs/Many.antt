@@ -16,7 +16,13 @@ use Rattle.writer.specs.Many.{unlessRefused, putNext, putAll}
 use Rattle.writer.specs.Put.{Outcome, put}
 use Rattle.writer.proofs.Agreeing.{taking, taken-when, keeps}
 use Rattle.writer.proofs.EachKind.{long}
-use Rattle.retold.specs.Many.{FitsAll, writtenIn, Added}
+use Rattle.retold.specs.Many.{All, FitsAll, writtenIn, Added}
+
+-- ---- what is so of each of two lists
+
+pub all-join : {A : Type 0} (P : A → Type 0) (xs ys : List A) → All P xs → All P ys → All P (xs ++ ys)
+all-join P [] ys a b = b
+all-join P (x ∷ xs) ys a b = (a .0, all-join P xs ys (a .1) b)
 
 -- ---- runs of blocks
 

@@ -33,7 +33,7 @@ use Rattle.writer.specs.Put.{Outcome, put}
 use Rattle.writer.specs.Trips.{Fits, storedAs}
 use Rattle.writer.proofs.Agreeing.{taking, taken-when, keeps}
 use Rattle.writer.proofs.Ahead.{stays-after}
-use Rattle.retold.specs.Many.{writtenIn}
+use Rattle.retold.specs.Many.{All, writtenIn}
 use Rattle.retold.specs.Retold.{Pair, PairsFit, momentBlocks}
 use Rattle.retold.proofs.Many.{first}
 
@@ -95,8 +95,7 @@ moment-put h w room t =
 
 -- each data has the length that its header says
 abbrev pub PairsLong : List Pair → Type 0
-PairsLong [] = Unit {0}
-PairsLong (p ∷ ps) = (length (p .bytes) ≡ p .header .length) × PairsLong ps
+PairsLong ps = All (λ p. length (p .bytes) ≡ p .header .length) ps
 
 -- from o to q the present radial goes on: it is the same, and no other has become whole
 record Goes (o q : Outcome) : Type 0 where

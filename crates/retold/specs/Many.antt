@@ -10,10 +10,14 @@ use Rattle.writer.specs.Many.{putAll}
 use Rattle.writer.specs.Put.{Outcome}
 use Rattle.writer.specs.Trips.{Fits}
 
--- each of them is a block that its type holds ("Blocks")
+-- each of some things is as P says
+abbrev pub All : {A : Type 0} → (A → Type 0) → List A → Type 0
+All P [] = Unit {0}
+All P (x ∷ xs) = P x × All P xs
+
+-- each is a block that its type holds ("Blocks")
 abbrev pub FitsAll : List Block → Type 0
-FitsAll [] = Unit {0}
-FitsAll (b ∷ bs) = Fits b × FitsAll bs
+FitsAll bs = All Fits bs
 
 -- what is written so far ("Writing")
 abbrev pub writtenIn : Outcome → List ℕ

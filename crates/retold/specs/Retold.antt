@@ -21,7 +21,7 @@ use Rattle.writer.specs.Agree.{Agrees}
 use Rattle.writer.specs.Block.{Block, radial, moment, «data», bytesOf}
 use Rattle.writer.specs.Many.{putAll}
 use Rattle.writer.specs.Put.{Outcome}
-use Rattle.retold.specs.Many.{writtenIn}
+use Rattle.retold.specs.Many.{All, writtenIn}
 
 -- a moment as it is put: its header, and its data
 pub record Pair : Type 0 where
@@ -30,8 +30,7 @@ pub record Pair : Type 0 where
 
 -- each header is one that its type holds ("Blocks")
 abbrev pub PairsFit : List Pair → Type 0
-PairsFit [] = Unit {0}
-PairsFit (p ∷ ps) = MomentFits (p .header) × PairsFit ps
+PairsFit ps = All (λ p. MomentFits (p .header)) ps
 
 -- the blocks of moments, and of a radial with them ("Blocks")
 unfoldable pub momentBlocks : List Pair → List Block

@@ -16,7 +16,6 @@ use Rattle.site.specs.declared.Site.{Site}
 use Rattle.site.specs.Site.{SiteFits}
 use Rattle.task.specs.declared.Task.{Task}
 use Rattle.task.specs.Task.{TaskFits}
-use Rattle.cut.specs.Cut.{cutAt, cutSize}
 use Rattle.gates.specs.Gates.{Values}
 use Rattle.gates.specs.Telling.{Telling, refused}
 use Rattle.walk.specs.declared.due.Walk.{Walk}
@@ -32,11 +31,12 @@ use Rattle.writer.specs.declared.order.Answer.the-variants.{Taken, Refused}
 use Rattle.writer.specs.Block.{Block, generic, site, task, cut, radial, moment, «data», bytesOf}
 use Rattle.writer.specs.Many.{beginning, putAll}
 use Rattle.writer.specs.Put.{Outcome, put}
+use Rattle.writer.specs.Trips.{Fits}
 use Rattle.writer.proofs.Agreeing.{taking}
 use Rattle.writer.proofs.Runs.{start, read-back}
-use Rattle.retold.specs.Many.{FitsAll, writtenIn}
+use Rattle.retold.specs.Many.{All, FitsAll, writtenIn}
 use Rattle.retold.specs.Retold.{momentAmong, gateAmong, momentAsked, wholeIn, Retold}
-use Rattle.retold.proofs.Many.{put-append, first, all-added}
+use Rattle.retold.proofs.Many.{all-join, put-append, first, all-added}
 use Rattle.retold.proofs.Retold.{retold}
 use Rattle.old.specs.declared.codes.Quantity.{Quantity}
 use Rattle.old.specs.Codes.{meaning}
@@ -48,7 +48,7 @@ use Rattle.shelf.specs.Brought.{typeOf, oldCode, Means, HeaderKeeps, Mom
 use Rattle.shelf.specs.Import.{firstCuts, restOf, ourBlocks, momentsOf, oldRadial, oldBlocks, takeOver, takeFirst, ours, through, refusedWhole, allOrNothing, importOf}
 use Rattle.shelf.proofs.Imported.{radials, front-stands}
 use Rattle.shelf.proofs.Kept.{header-keeps, count-is, moment-keeps, gate-means, no-gate, nowhere, types-apart}
-use Rattle.shelf.proofs.Ours.{join-fits, our-fits, ours-taken}
+use Rattle.shelf.proofs.Ours.{all-cuts, our-fits, ours-taken}
 use Rattle.shelf.proofs.Over.{Standing, pairs-fit, blocks-fit-all, TakenOver, over-taking, over-added}
 
 -- ---- no radial is whole behind our records
@@ -62,10 +62,6 @@ Early (cut r) = Unit {0}
 Early (radial r) = ⊥
 Early (moment r) = ⊥
 Early («data» bs) = ⊥
-
-abbrev AllEarly : List Block → Type 0
-AllEarly [] = Unit {0}
-AllEarly (b ∷ bs) = Early b × AllEarly bs
 
 early-whole : (b : Block) → Early b → (w : Walk) (room : List ℕ) → put b w room .answer ≡ Taken → put b w room .walk .count .whole ≡ w .count .whole
 unfolding takeGeneric takeSite takeTask takeCut
@@ -82,7 +78,7 @@ early-whole (radial r) e w room t = absurd e
 early-whole (moment r) e w room t = absurd e
 early-whole («data» bs) e w room t = absurd e
 
-all-early : (bs : List Block) → AllEarly bs → (o : Outcome) → putAll bs o .answer ≡ Taken → putAll bs o .walk .count .whole ≡ o .walk .count .whole
+all-early : (bs : List Block) → All Early bs → (o : Outcome) → putAll bs o .answer ≡ Taken → putAll bs o .walk .count .whole ≡ o .walk .count .whole
 unfolding putAll
 all-early [] e o t = refl
 all-early (b ∷ bs) e o t =
@@ -90,15 +86,6 @@ all-early (b ∷ bs) e o t =
     ap (λ (x : Outcome). x .walk .count .whole) (f .is)
     ∙ all-early bs (e .1) (put b (o .walk) (o .room)) (f .rest)
     ∙ early-whole b (e .0) (o .walk) (o .room) (f .taken)
-
-join-early : (xs ys : List Block) → AllEarly xs → AllEarly ys → AllEarly (xs ++ ys)
-join-early [] ys a b = b
-join-early (x ∷ xs) ys a b = (a .0, join-early xs ys (a .1) b)
-
-cuts-early : (k : ℕ) (c : List ℕ) → AllEarly (firstCuts k c)
-unfolding firstCuts
-cuts-early zero c = tt
-cuts-early (suc k) c = join-early (firstCuts k c) (cut (cutAt c (k * cutSize)) ∷ []) (cuts-early k c) (tt, tt)
 
 -- ---- the radials, where all are taken
 
@@ -236,7 +223,7 @@ module _ (c f room : List ℕ) (bytes : Bytes f) (o : Outcome) (h : Standing c o
       let a = radials c f bytes o (λ e. h) k .standing (g .before) .agree in
       record {
         blocks = r .blocks ++ oldBlocks f at (q .walk);
-        fit = join-fits (r .blocks) (oldBlocks f at (q .walk)) (r .fit) (blocks-fit-all c f at bytes q a);
+        fit = all-join Fits (r .blocks) (oldBlocks f at (q .walk)) (r .fit) (blocks-fit-all c f at bytes q a);
         is =
             g .is
             ∙ ap (putAll (oldBlocks f at (q .walk))) (r .is)
@@ -266,8 +253,8 @@ module _ (g : Generic) (s : Site) (t : Task) (c f room : List ℕ) (gf : Generic
   unfolding restOf
   none-whole =
       let l = drop (length c / 256 * 256) c in
-      let e : AllEarly (restOf l) = subst⁻¹ (λ (x : List ℕ). AllEarly (restOf x)) (ours-taken g s t c room gf sf tf cb begun .whole) tt in
-      all-early (ourBlocks g s t c) (tt, (tt, (tt, join-early (firstCuts (length c / 256) c) (restOf l) (cuts-early (length c / 256) c) e))) (beginning room) begun
+      let e : All Early (restOf l) = subst⁻¹ (λ (x : List ℕ). All Early (restOf x)) (ours-taken g s t c room gf sf tf cb begun .whole) tt in
+      all-early (ourBlocks g s t c) (tt, (tt, (tt, all-join Early (firstCuts (length c / 256) c) (restOf l) (all-cuts Early c (λ at. tt) (length c / 256)) e))) (beginning room) begun
 
   pub brought : Brought g s t c f room (through g s t c f room)
   unfolding takeFirst

@@ -35,38 +35,33 @@ use Rattle.writer.specs.Agree.{Agrees}
 use Rattle.writer.specs.Block.{Block, generic, site, task, cut, «data», bytesOf}
 use Rattle.writer.specs.Many.{beginning, putNext, putAll}
 use Rattle.writer.specs.Put.{Outcome, put}
+use Rattle.writer.specs.Trips.{Fits}
 use Rattle.writer.proofs.Agreeing.{taking, taken-when}
 use Rattle.writer.proofs.Runs.{start}
-use Rattle.retold.specs.Many.{FitsAll, writtenIn}
-use Rattle.retold.proofs.Many.{put-append, before-taken, next-put, first, all-added}
+use Rattle.retold.specs.Many.{All, FitsAll, writtenIn}
+use Rattle.retold.proofs.Many.{all-join, put-append, before-taken, next-put, first, all-added}
 use Rattle.shelf.specs.Import.{firstCuts, restOf, cutBlocks, ourBlocks, ours}
 use Rattle.shelf.specs.Settled.{settleNext, settleData, settleCuts, settleRest, settleHead, settleOurs}
-use Rattle.shelf.proofs.Settling.{putOf, settleAll, settle-append, AllRoomless, all-settles, Agreed}
+use Rattle.shelf.proofs.Settling.{putOf, settleAll, settle-append, Roomless, all-settles, Agreed}
 
 -- ---- their blocks
 
-pub join-fits : (xs ys : List Block) → FitsAll xs → FitsAll ys → FitsAll (xs ++ ys)
-join-fits [] ys a b = b
-join-fits (x ∷ xs) ys a b = (a .0, join-fits xs ys (a .1) b)
+-- what is so of every cut record is so of the first k
+pub all-cuts : (P : Block → Type 0) (c : List ℕ) → ((at : ℕ) → P (cut (cutAt c at))) → (k : ℕ) → All P (firstCuts k c)
+unfolding firstCuts
+all-cuts P c each zero = tt
+all-cuts P c each (suc k) = all-join P (firstCuts k c) (cut (cutAt c (k * cutSize)) ∷ []) (all-cuts P c each k) (each (k * cutSize), tt)
 
-join-roomless : (xs ys : List Block) → AllRoomless xs → AllRoomless ys → AllRoomless (xs ++ ys)
-join-roomless [] ys a b = b
-join-roomless (x ∷ xs) ys a b = (a .0, join-roomless xs ys (a .1) b)
+-- and of the bytes behind the last, where it is so of data
+all-rest : (P : Block → Type 0) → ((bs : List ℕ) → P («data» bs)) → (l : List ℕ) → All P (restOf l)
+unfolding restOf
+all-rest P each [] = tt
+all-rest P each (b ∷ bs) = (each (b ∷ bs), tt)
 
 module _ (c : List ℕ) (bytes : Bytes c) where
   cut-fits : (at : ℕ) → CutFits (cutAt c at)
   unfolding cutAt
   cut-fits at = cut-trip.fits-of (part 256 c at) (part-bytes 256 c at bytes)
-
-  cuts-fit : (k : ℕ) → FitsAll (firstCuts k c)
-  unfolding firstCuts
-  cuts-fit zero = tt
-  cuts-fit (suc k) = join-fits (firstCuts k c) (cut (cutAt c (k * cutSize)) ∷ []) (cuts-fit k) (cut-fits (k * cutSize), tt)
-
-  rest-fits : (l : List ℕ) → FitsAll (restOf l)
-  unfolding restOf
-  rest-fits [] = tt
-  rest-fits (b ∷ bs) = (tt, tt)
 
   -- the bytes of the first k are the first bytes of the list
   cuts-bytes : (k : ℕ) → run bytesOf (firstCuts k c) ≡ part (k * 256) c 0
@@ -81,16 +76,6 @@ module _ (c : List ℕ) (bytes : Bytes c) where
       ∙ ap (λ (n : ℕ). part (k * 256) c 0 ++ part 256 c n) (sym (zero-add (k * 256)))
       ∙ part-join (k * 256) 256 c 0
       ∙ ap (λ (n : ℕ). part n c 0) size
-
-cuts-roomless : (c : List ℕ) (k : ℕ) → AllRoomless (firstCuts k c)
-unfolding firstCuts
-cuts-roomless c zero = tt
-cuts-roomless c (suc k) = join-roomless (firstCuts k c) (cut (cutAt c (k * cutSize)) ∷ []) (cuts-roomless c k) ((λ room other w. refl), tt)
-
-rest-roomless : (l : List ℕ) → AllRoomless (restOf l)
-unfolding restOf
-rest-roomless [] = tt
-rest-roomless (b ∷ bs) = ((λ room other w. refl), tt)
 
 -- ---- settled
 
@@ -110,17 +95,18 @@ rest-length : (c : List ℕ) → length (drop (length c / 256 * 256) c) ≡ leng
 rest-length c = length-drop (length c / 256 * 256) c ∙ omega arith
 
 module _ (g : Generic) (s : Site) (t : Task) (c room : List ℕ) (gf : GenericFits g) (sf : SiteFits s) (tf : TaskFits t) (bytes : Bytes c) where
-  pub our-fits : FitsAll (ourBlocks g s t c)
-  our-fits = (gf, (sf, (tf, join-fits (firstCuts (length c / 256) c) (restOf (drop (length c / 256 * 256) c)) (cuts-fit c bytes (length c / 256)) (rest-fits c bytes (drop (length c / 256 * 256) c)))))
+  -- our blocks, where it is so of each record and of data
+  all-ours : (P : Block → Type 0) → P (generic g) → P (site s) → P (task t) → ((at : ℕ) → P (cut (cutAt c at))) → ((bs : List ℕ) → P («data» bs)) → All P (ourBlocks g s t c)
+  all-ours P a b d e h =
+      let k = length c / 256 in
+      let l = drop (length c / 256 * 256) c in
+      (a, (b, (d, all-join P (firstCuts k c) (restOf l) (all-cuts P c e k) (all-rest P h l))))
 
-  our-roomless : AllRoomless (ourBlocks g s t c)
-  our-roomless = (
-    (λ room other w. refl),
-    (
-      (λ room other w. refl),
-      ((λ room other w. refl), join-roomless (firstCuts (length c / 256) c) (restOf (drop (length c / 256 * 256) c)) (cuts-roomless c (length c / 256)) (rest-roomless (drop (length c / 256 * 256) c))),
-    ),
-  )
+  pub our-fits : FitsAll (ourBlocks g s t c)
+  our-fits = all-ours Fits gf sf tf (cut-fits c bytes) (λ bs. tt)
+
+  our-roomless : All Roomless (ourBlocks g s t c)
+  our-roomless = all-ours Roomless (λ r o w. refl) (λ r o w. refl) (λ r o w. refl) (λ at r o w. refl) (λ bs r o w. refl)
 
   pub record OursSettle : Type 0 where
     pub settles : putOf (ours g s t c room) ≡ settleOurs g s t c (length room)

@@ -12,6 +12,7 @@ use Rattle.rules.specs.declared.check.Check.{Check}
 use Rattle.rules.specs.declared.check.Check.the-variants.{Fine, Broken}
 use Rattle.cut.specs.declared.Cut.{Cut}
 use Rattle.cut.specs.Cut.{cutOf, cutAt}
+use Rattle.moment.specs.Moment.{MomentFits}
 use Rattle.radial.specs.declared.Radial.{Radial}
 use Rattle.walk.specs.declared.due.Due.the-variants as due
 use Rattle.walk.specs.declared.due.Plan.{Plan}
@@ -29,9 +30,9 @@ use Rattle.writer.specs.Many.{unlessRefused, putNext, putAll}
 use Rattle.writer.specs.Put.{Outcome, put}
 use Rattle.writer.proofs.Agreeing.{taking, taken-when}
 use Rattle.writer.proofs.Places.{behind}
-use Rattle.retold.specs.Many.{FitsAll, writtenIn, Added}
+use Rattle.retold.specs.Many.{All, FitsAll, writtenIn, Added}
 use Rattle.retold.specs.Retold.{Pair, PairsFit, momentBlocks, radialBlocks}
-use Rattle.retold.proofs.Many.{first, all-added}
+use Rattle.retold.proofs.Many.{all-join, first, all-added}
 use Rattle.retold.proofs.Retold.{blocks-fit}
 use Rattle.retold.proofs.Whole.{radial-put, moment-put}
 use Rattle.old.specs.declared.codes.Quantity.{Quantity}
@@ -44,7 +45,7 @@ use Rattle.old.proofs.Back.{new-length}
 use Rattle.old.proofs.Fitting.{old-fits, radial-fits, moment-fits}
 use Rattle.shelf.specs.Import.{momentOf, momentsOf, oldRadial, oldBlocks, unlessBroken, takeOver}
 use Rattle.shelf.specs.Settled.{unless, front, settleIn, settleNext, settleData, counted, radialNext, settleMoment, settleMoments, unlessBad, settleOver, laidBytes, laidIf, bytesNext, settledOver, layOver}
-use Rattle.shelf.proofs.Settling.{putOf, settleAll, settle-append, AllRoomless, Settles, next, first-settles, all-settles}
+use Rattle.shelf.proofs.Settling.{putOf, settleAll, settle-append, Roomless, Settles, next, first-settles, all-settles}
 use Rattle.shelf.proofs.Walks.{small, cut-known}
 
 -- ---- its blocks
@@ -54,10 +55,6 @@ unfolding gatesOf
 gates-fit Reflectivity o h = h .reflectivity
 gates-fit Velocity o h = h .doppler
 gates-fit Width o h = h .doppler
-
-join-pairs : (xs ys : List Pair) → PairsFit xs → PairsFit ys → PairsFit (xs ++ ys)
-join-pairs [] ys a b = b
-join-pairs (x ∷ xs) ys a b = (a .0, join-pairs xs ys (a .1) b)
 
 moment-pair-fits : (q : Quantity) (o : OldRadial) (f : List ℕ) (at : ℕ) → OldFits o → PairsFit (momentOf q o f at)
 unfolding momentOf
@@ -70,10 +67,10 @@ moment-pair-fits q o f at h = go (eqb (gatesOf q o) 0)
 
 pub pairs-fit : (o : OldRadial) (f : List ℕ) (at : ℕ) → OldFits o → PairsFit (momentsOf o f at)
 pairs-fit o f at h =
-    join-pairs (momentOf Reflectivity o f at) (momentOf Velocity o f at ++ momentOf Width o f at) (moment-pair-fits Reflectivity o f at h)
-    (join-pairs (momentOf Velocity o f at) (momentOf Width o f at) (moment-pair-fits Velocity o f at h) (moment-pair-fits Width o f at h))
+    all-join (λ p. MomentFits (p .header)) (momentOf Reflectivity o f at) (momentOf Velocity o f at ++ momentOf Width o f at) (moment-pair-fits Reflectivity o f at h)
+    (all-join (λ p. MomentFits (p .header)) (momentOf Velocity o f at) (momentOf Width o f at) (moment-pair-fits Velocity o f at h) (moment-pair-fits Width o f at h))
 
-roomless : (ps : List Pair) → AllRoomless (momentBlocks ps)
+roomless : (ps : List Pair) → All Roomless (momentBlocks ps)
 unfolding momentBlocks
 roomless [] = tt
 roomless (p ∷ ps) = ((λ room other w. refl), ((λ room other w. refl), roomless ps))

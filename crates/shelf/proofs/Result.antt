@@ -44,41 +44,51 @@ module _ (g : Generic) (s : Site) (t : Task) (c f room : List ℕ) where
       refuses 50 0
       (ap (λ (x : Bool). cond x (allOrNothing (through g s t c f room .answer) (through g s t c f room) room) (refusedWhole 50 0 room)) (sym e ∙ off-if _ off)) p w
 
-  module _ (gf : GenericFits g) (sf : SiteFits s) (tf : TaskFits t) (cb : Bytes c) (fb : Bytes f) {first last : Put} (a : first ≡ settleOurs g s t c (length room))
-      (b : last ≡ settleFirst (radialsIn (length f)) c f (length room) first) where
-    done : Imported g s t c f room gf sf tf cb fb
-    done = imported g s t c f room gf sf tf cb fb
+  -- what is known once everything is settled
+  pub record Known (ok : Bool) (first last : Put) : Type 0 where
+    pub generic : GenericFits g
+    pub site : SiteFits s
+    pub task : TaskFits t
+    pub cuts : Bytes c
+    pub old : Bytes f
+    pub asked : ok ≡ shelfOk (length f)
+    pub right : not ok ≡ false
+    pub ours : first ≡ settleOurs g s t c (length room)
+    pub all : last ≡ settleFirst (radialsIn (length f)) c f (length room) first
 
-    last-is : last ≡ record { answer = through g s t c f room .answer; walk = through g s t c f room .walk }
-    last-is = b ∙ ap (settleFirst (radialsIn (length f)) c f (length room)) a ∙ sym (done .settles)
+module _ {g : Generic} {s : Site} {t : Task} {c f room : List ℕ} {ok : Bool} {first last : Put} (k : Known g s t c f room ok first last) where
+  done : Imported g s t c f room (k .generic) (k .site) (k .task) (k .cuts) (k .old)
+  done = imported g s t c f room (k .generic) (k .site) (k .task) (k .cuts) (k .old)
 
-    taken-is : last .answer ≡ Taken → through g s t c f room .answer ≡ Taken
-    taken-is e = ap (λ (p : Put). p .answer) (sym last-is) ∙ e
+  last-is : last ≡ record { answer = through g s t c f room .answer; walk = through g s t c f room .walk }
+  last-is = k .all ∙ ap (settleFirst (radialsIn (length f)) c f (length room)) (k .ours) ∙ sym (done .settles)
 
-    pub enough-room : last .answer ≡ Taken → cutPlace 1 + length c ≤ length room
-    enough-room e = done .suffices (taken-is e)
+  taken-is : last .answer ≡ Taken → through g s t c f room .answer ≡ Taken
+  taken-is e = ap (λ (p : Put). p .answer) (sym last-is) ∙ e
 
-    module _ {ok : Bool} (k : ok ≡ shelfOk (length f)) (yes : not ok ≡ false) where
-      import-is : {x : Answer} → last .answer ≡ x → importOf g s t c f room ≡ allOrNothing x (through g s t c f room) room
-      unfolding importOf
-      import-is e =
-          ap (λ (y : Bool). cond y (allOrNothing (through g s t c f room .answer) (through g s t c f room) room) (refusedWhole 50 0 room)) (sym k ∙ on-if ok yes)
-          ∙ ap (λ (y : Answer). allOrNothing y (through g s t c f room) room) (ap (λ (p : Put). p .answer) (sym last-is) ∙ e)
+  import-is : {x : Answer} → last .answer ≡ x → importOf g s t c f room ≡ allOrNothing x (through g s t c f room) room
+  unfolding importOf
+  import-is e =
+      ap (λ (y : Bool). cond y (allOrNothing (through g s t c f room .answer) (through g s t c f room) room) (refusedWhole 50 0 room)) (sym (k .asked) ∙ on-if ok (k .right))
+      ∙ ap (λ (y : Answer). allOrNothing y (through g s t c f room) room) (ap (λ (p : Put). p .answer) (sym last-is) ∙ e)
 
-      pub refused-whole : (n at : ℕ) {p : Put} {w : Walk} → last .answer ≡ Refused n at → p ≡ record { answer = Refused n at; walk = w } → w ≡ atStart → Puts (importOf g s t c f room) p room
-      unfolding allOrNothing
-      refused-whole n at e p w = refuses n at (import-is e) p w
+  pub enough-room : last .answer ≡ Taken → cutPlace 1 + length c ≤ length room
+  enough-room e = done .suffices (taken-is e)
 
-      pub laid-whole : {mid held : List ℕ} → last .answer ≡ Taken → mid ≡ patch room 0 (genericBytes g ++ siteBytes s ++ taskBytes t ++ c)
-          → held ≡ layFirst (radialsIn (length f)) c f (record { walk = first .walk; room = mid }) .room → Puts (importOf g s t c f room) last held
-      unfolding allOrNothing
-      laid-whole {held = held} e m h =
-          subst⁻¹ (λ (x : Outcome). Puts x last held) (import-is e)
-          (record {
-            answer = ap (λ (p : Put). toldAnswer (p .answer)) last-is;
-            walk = ap (λ (p : Put). p .walk) last-is;
-            room =
-                h
-                ∙ ap₂ (λ (p : Put) (x : List ℕ). layFirst (radialsIn (length f)) c f (record { walk = p .walk; room = x }) .room) a m
-                ∙ done .laid (taken-is e);
-          })
+  pub refused-whole : (n at : ℕ) {p : Put} {w : Walk} → last .answer ≡ Refused n at → p ≡ record { answer = Refused n at; walk = w } → w ≡ atStart → Puts (importOf g s t c f room) p room
+  unfolding allOrNothing
+  refused-whole n at e p w = refuses g s t c f room n at (import-is e) p w
+
+  pub laid-whole : {mid held : List ℕ} → last .answer ≡ Taken → mid ≡ patch room 0 (genericBytes g ++ siteBytes s ++ taskBytes t ++ c)
+      → held ≡ layFirst (radialsIn (length f)) c f (record { walk = first .walk; room = mid }) .room → Puts (importOf g s t c f room) last held
+  unfolding allOrNothing
+  laid-whole {held = held} e m h =
+      subst⁻¹ (λ (x : Outcome). Puts x last held) (import-is e)
+      (record {
+        answer = ap (λ (p : Put). toldAnswer (p .answer)) last-is;
+        walk = ap (λ (p : Put). p .walk) last-is;
+        room =
+            h
+            ∙ ap₂ (λ (p : Put) (x : List ℕ). layFirst (radialsIn (length f)) c f (record { walk = p .walk; room = x }) .room) (k .ours) m
+            ∙ done .laid (taken-is e);
+      })

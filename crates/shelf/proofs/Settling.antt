@@ -24,7 +24,7 @@ use Rattle.writer.proofs.Agreeing.{inner-is, keeps}
 use Rattle.writer.proofs.EachKind.{long}
 use Rattle.writer.proofs.Putting.{passed}
 use Rattle.writer.proofs.Same.{kind-is}
-use Rattle.retold.specs.Many.{FitsAll}
+use Rattle.retold.specs.Many.{All, FitsAll}
 use Rattle.retold.proofs.Many.{next-put}
 use Rattle.shelf.specs.Settled.{unless, front, settleIn}
 
@@ -136,12 +136,8 @@ module _ (c : List ℕ) (b : Block) (fits : Fits b) (o : Outcome) where
 
 -- ---- many blocks, none of them a radial
 
-abbrev Roomless : Block → Type 0
+abbrev pub Roomless : Block → Type 0
 Roomless b = (room other : List ℕ) (w : Walk) → saysOf b room w ≡ saysOf b other w
-
-abbrev pub AllRoomless : List Block → Type 0
-AllRoomless [] = Unit {0}
-AllRoomless (b ∷ bs) = Roomless b × AllRoomless bs
 
 pub record Settles (c : List ℕ) (bs : List Block) (o : Outcome) : Type 0 where
   pub settles : putOf (putAll bs o) ≡ settleAll c (length (o .room)) bs (putOf o)
@@ -158,7 +154,7 @@ first-settles c b fits bs o n r =
       agreed = r .agreed;
     }
 
-pub all-settles : (c : List ℕ) (bs : List Block) → FitsAll bs → AllRoomless bs → (o : Outcome) → Agreed o → Settles c bs o
+pub all-settles : (c : List ℕ) (bs : List Block) → FitsAll bs → All Roomless bs → (o : Outcome) → Agreed o → Settles c bs o
 unfolding putAll settleAll
 all-settles c [] fits free o a = record { settles = refl; room = refl; agreed = a }
 all-settles c (b ∷ bs) fits free o a =

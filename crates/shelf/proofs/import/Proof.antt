@@ -4,7 +4,7 @@ use borrow.Author.Needs.{needs}
 use Rattle.generic.specs.Generic.{GenericFits}
 use Rattle.site.specs.Site.{SiteFits}
 use Rattle.task.specs.Task.{TaskFits}
-use Rattle.shelf.proofs.Result.{wrong-length, enough-room, refused-whole, laid-whole}
+use Rattle.shelf.proofs.Result.{wrong-length, Known, enough-room, refused-whole, laid-whole}
 use Rattle.shelf.proofs.import.Statement.{statement}
 use Rattle.shelf.proofs.import.Tie as tie
 
@@ -24,46 +24,43 @@ returns c =
     let a = asked .before .before .before .before .args in
     wrong-length (a .g) (a .s) (a .t) (a .cuts .now) (a .old .now) (a .room .now) (asked .shelf-ok .ensures) (c .before .before .if1 .taken) (c .refused .ensures) (c .before .begin .ensures)
 
+-- what is known where everything is settled
+known : (p : tie.After-settle-all)
+    → let first = p .before .before in
+    let asked = first .before .before .before in
+    let a = asked .before .before .before .before .args in
+    Known (a .g) (a .s) (a .t) (a .cuts .now) (a .old .now) (a .room .now) (asked .shelf-ok .result) (first .settle-ours .result) (p .settle-all .result)
+known p =
+    let first = p .before .before in
+    let asked = first .before .before .before in
+    let slices = asked .before .before in
+    let s = slices .before .before in
+    record {
+      generic = generic-fits s;
+      site = site-fits s;
+      task = task-fits s;
+      cuts = record { byte = λ i. slices .before .shared-slice-known .given i .fits };
+      old = record { byte = λ i. slices .shared-slice-known2 .given i .fits };
+      asked = asked .shelf-ok .ensures;
+      right = first .before .before .if1 .left;
+      ours = first .settle-ours .ensures;
+      all = p .settle-all .ensures;
+    }
+
 lay-ours-requires : tie.Need-lay-ours-requires
-lay-ours-requires c κs =
-    let last = c .before .before .before in
-    let first = last .before .before in
-    let known = first .before .before .before .before in
-    let s = known .before .before .before in
-    let a = s .args in
-    enough-room (a .g) (a .s) (a .t) (a .cuts .now) (a .old .now) (a .room .now) (generic-fits s) (site-fits s) (task-fits s)
-    (record { byte = λ i. known .before .before .shared-slice-known .given i .fits }) (record { byte = λ i. known .before .shared-slice-known2 .given i .fits })
-    (first .settle-ours .ensures) (last .settle-all .ensures) (c .before .enum-told .given .1)
+lay-ours-requires c κs = enough-room (known (c .before .before .before)) (c .before .enum-told .given .1)
 
 returns-2 : tie.Need-returns-2
 returns-2 c =
     let laid = c .before .before in
     let front = laid .before .before .before .before in
     let told = front .before .before in
-    let last = told .before .before in
-    let first = last .before .before in
-    let asked = first .before .before .before in
-    let known = asked .before in
-    let s = known .before .before .before in
-    let a = s .args in
-    laid-whole (a .g) (a .s) (a .t) (a .cuts .now) (a .old .now) (a .room .now) (generic-fits s) (site-fits s) (task-fits s)
-    (record { byte = λ i. known .before .before .shared-slice-known .given i .fits }) (record { byte = λ i. known .before .shared-slice-known2 .given i .fits })
-    (first .settle-ours .ensures) (last .settle-all .ensures) (asked .shelf-ok .ensures) (first .before .before .if1 .left) (told .enum-told .given .1)
-    (front .lay-ours .ensures) (laid .lay-all .ensures)
+    laid-whole (known (told .before .before)) (told .enum-told .given .1) (front .lay-ours .ensures) (laid .lay-all .ensures)
 
 returns-3 : tie.Need-returns-3
 returns-3 c =
     let told = c .before .before .before in
-    let last = told .before .before in
-    let first = last .before .before in
-    let asked = first .before .before .before in
-    let known = asked .before in
-    let s = known .before .before .before in
-    let a = s .args in
-    refused-whole (a .g) (a .s) (a .t) (a .cuts .now) (a .old .now) (a .room .now) (generic-fits s) (site-fits s) (task-fits s)
-    (record { byte = λ i. known .before .before .shared-slice-known .given i .fits }) (record { byte = λ i. known .before .shared-slice-known2 .given i .fits })
-    (first .settle-ours .ensures) (last .settle-all .ensures) (asked .shelf-ok .ensures) (first .before .before .if1 .left) _ _ (told .answer .given .1)
-    (c .refused2 .ensures) (c .before .begin2 .ensures)
+    refused-whole (known (told .before .before)) _ _ (told .answer .given .1) (c .refused2 .ensures) (c .before .begin2 .ensures)
 
 pub import-spec : {M : Type 1} → statement M
 import-spec =
