@@ -28,7 +28,7 @@ SAME_HUNDREDTHS, ENOUGH_HUNDREDTHS = 'eqb (length h) (length codes)', 'leb (leng
 ONE_BYTE, TWO_BYTES = 'cond (bit sizes t) true (is 1 (short bin))', 'cond (bit sizes t) (is 2 (short bin)) true'
 CHECKED, COMPARE = (f'crates/decoded/proofs/{path}.antt' for path in ('Checked', 'compare/Proof'))
 OLD, CODES, HEADERS = (f'crates/old/specs/{name}.antt' for name in ('Old', 'Codes', 'Headers'))
-KEPT, TRIED = (f'crates/old/proofs/{name}.antt' for name in ('Kept', 'Numbers'))
+KEPT = 'crates/old/proofs/Kept.antt'
 OLD_RECORD, OLD_HEADERS = (f'crates/old/src/{name}.rt' for name in ('record', 'headers'))
 BROKEN, AT, AT_END = 'answer = Refused (c .number) ', 'at;', '(before .walk .at);'
 
@@ -308,7 +308,6 @@ SLIPS = {
                  'counts_breaks(self.reflectivity, self.doppler),\n            52,'),
         *swapped('crates/old/proofs/record/OldRadial/check/Proof.antt', '.time-breaks', '.counts-breaks'),
         *swapped('crates/old/proofs/Accepted.antt', 'rules-hold o ok .1 .0', 'rules-hold o ok .1 .1 .0'),
-        (TRIED, '51 ∷ 62 ∷ 52', '51 ∷ 52 ∷ 52'),
         ('crates/shelf/proofs/Kept.antt', 'rules-hold o fine .1 .0', 'rules-hold o fine .1 .1 .0'),
         ('crates/shelf/proofs/Growing.antt', 'rules-hold (oldAt A at) e .1 .1 .0', 'rules-hold (oldAt A at) e .1 .0'),
         ('crates/shelf/proofs/lay/lay_over/Proof.antt', '∙ t)) .1 .1 .0', '∙ t)) .1 .0'),
@@ -335,7 +334,6 @@ SLIPS = {
         (KEPT, 'offset = 132', 'offset = 133'),
         ('crates/old/proofs/Fitting.antt', '≤ 132', '≤ 133'),
         ('crates/old/proofs/Fitting.antt', '132 ≤', '133 ≤'),
-        (TRIED, '5 ∷ 257 ∷ 258', '6 ∷ 258 ∷ 259'),
     ],
     # velocity of scale 2 whatever the resolution (document 02, #102)
     'velocity_in_halves': [
@@ -354,7 +352,6 @@ SLIPS = {
     'days_from_zero': [
         ('crates/old/specs/Clock.antt', '86400 * (day - 1) +', '86400 * day +'),
         ('crates/old/src/clock.rt', '86400 * (day as u64 - 1) +', '86400 * (day as u64) +'),
-        (TRIED, '1 ∷ 0 ∷ 0 ∷ 2 ∷ 0 ∷ 0 ∷ 3 ∷ 3', '1 ∷ 0 ∷ 0 ∷ 2 ∷ 3 ∷ 3 ∷ 3 ∷ 3'),
     ],
 }
 

@@ -12,6 +12,7 @@ use Rattle.le.proofs.Laws.{le-part}
 use Rattle.gates.specs.Gates.{isMeasurement, otherOf, gateOf, magnitudeOf, roundedOf, toldOf}
 use Rattle.old.specs.declared.record.OldRadial.{OldRadial}
 use Rattle.old.specs.Angle.{angleBits}
+use Rattle.old.specs.Clock.{timeClauses}
 use Rattle.old.specs.Codes.{formula, newCode, codingOf}
 use Rattle.old.specs.Headers.{gatesOf, placeOf, momentFrom}
 use Rattle.old.specs.Old.{oldOf, oldAt}
@@ -19,7 +20,7 @@ use Rattle.shelf.specs.Import.{momentOf}
 use Rattle.shelf.proofs.Bringing.{taken-all}
 use Rattle.shelf.proofs.Growing.{grows}
 use Rattle.shelf.proofs.Ordering.{ordered}
-use Rattle.demands.specs.Imports.{two, four, Fields, InOrder, Worth, computed, table, Angles, Imports}
+use Rattle.demands.specs.Imports.{two, four, Fields, InOrder, Worth, computed, table, Angles, Times, Imports}
 
 -- ---- the fields
 
@@ -95,6 +96,10 @@ angles : Angles
 unfolding angleBits toBits round units odd size
 angles = refl
 
+times : Times
+unfolding timeClauses
+times = refl
+
 pub imports : Imports
 imports =
     record {
@@ -103,6 +108,7 @@ imports =
       worth = worth;
       worked = worked;
       angles = angles;
+      times = times;
       ordered = ordered;
       brought = taken-all;
       grows = λ g s t c A C room m n short more gf sf tf cb fb. grows g s t c A C room m n short more gf sf tf cb fb;

@@ -1,6 +1,7 @@
 -- The import of an old shelf (document 02, #102): what it reads of an old file, in which order it is refused, and what it has brought
 -- over where it is taken. That a refusal leaves everything as it was, and that its promise leaves no choice, is in `One`.
 use Prim.Native.Nat.{ℕ, _+_, _*_, _<_}
+use mathlib.Core.Bool.{true, false}
 use mathlib.Core.List.{List, [], _∷_, _++_, map}
 use mathlib.Core.Path.{_≡_}
 use lib.IntN.{ℤ, pos, negsuc}
@@ -18,6 +19,7 @@ use Rattle.old.specs.declared.codes.Quantity.{Quantity}
 use Rattle.old.specs.declared.codes.Quantity.the-variants.{Reflectivity, Velocity, Width}
 use Rattle.old.specs.declared.record.OldRadial.{OldRadial}
 use Rattle.old.specs.Angle.{angleBits}
+use Rattle.old.specs.Clock.{timeOk}
 use Rattle.old.specs.Codes.{over, Same, formula, newCode, codingOf}
 use Rattle.old.specs.Old.{oldAt}
 use Rattle.shelf.specs.Brought.{oldCode, Brought}
@@ -125,6 +127,21 @@ Angles =
     map angleBits (0 ∷ 1 ∷ 8192 ∷ 16384 ∷ 32768 ∷ 49152 ∷ 65535 ∷ [])
     ≡ 0 ∷ 0x3BB4_0000 ∷ 0x4234_0000 ∷ 0x42B4_0000 ∷ 0x4334_0000 ∷ 0x4387_0000 ∷ 0x43B3_FF4C ∷ []
 
+-- which times 62 lets through, from both sides of each end: day 0; day 1, from its first millisecond to its last; the last day that fits
+-- whole; the next one up to 03:14:07.999, and not a millisecond more; the one after it
+abbrev pub Times : Type 0
+Times =
+    timeOk 0 0
+    ∷ timeOk 1 0
+    ∷ timeOk 1 86399999
+    ∷ timeOk 1 86400000
+    ∷ timeOk 24855 86399999
+    ∷ timeOk 24856 11647999
+    ∷ timeOk 24856 11648000
+    ∷ timeOk 24857 0
+    ∷ []
+    ≡ false ∷ true ∷ true ∷ false ∷ true ∷ true ∷ false ∷ false ∷ []
+
 -- ---- the import
 
 pub record Imports : Type 0 where
@@ -133,6 +150,7 @@ pub record Imports : Type 0 where
   pub worth : Worth
   pub worked : map computed table ≡ table
   pub angles : Angles
+  pub times : Times
   -- 50, then the writer's on our records, then radial by radial 51, 62, 52, 53 at the radial's place in the old file and the writer's
   pub ordered : (g : Generic) (s : Site) (t : Task) (c f room : List ℕ) → Ordered g s t c f room
   -- taken, it is what the writer makes of its blocks one by one, read to its last byte, complete or open; every radial is there, with its

@@ -8,4 +8,3 @@ pub mod Fine
 pub mod Fewer
 pub mod Accepted
 pub mod Moments
-pub mod Numbers
