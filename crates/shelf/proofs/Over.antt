@@ -46,7 +46,7 @@ use Rattle.old.proofs.Fitting.{old-fits, radial-fits, moment-fits}
 use Rattle.shelf.specs.Import.{momentOf, momentsOf, oldRadial, oldBlocks, unlessBroken, takeOver}
 use Rattle.shelf.specs.Settled.{unless, front, settleIn, settleNext, settleData, counted, radialNext, settleMoment, settleMoments, unlessBad, settleOver, laidBytes, laidIf, bytesNext, settledOver, layOver}
 use Rattle.shelf.proofs.Settling.{putOf, settleAll, settle-append, Roomless, Settles, next, first-settles, all-settles}
-use Rattle.shelf.proofs.Walks.{small, cut-known}
+use Rattle.shelf.proofs.Walks.{small}
 
 -- ---- its blocks
 
@@ -126,8 +126,8 @@ same-cut c o h d =
     let w = o .walk in
     let b = behind (writtenIn o) w (h .agree .stops) d in
     let one = b .one in
-    let ends = b .cut in
-    let known = cut-known (writtenIn o) w (h .agree .stops) d in
+    let last = b .last in
+    let ends = b .cuts in
     let few = h .planned d in
     let n = h .long in
     let k = 256 * (w .count .cut - 1) in

@@ -1,29 +1,23 @@
--- What holds of every walk that a reading reaches, as far as an import asks: how far its counts go, and that radials belong to one of
--- the task's cuts. Assumes nothing.
+-- How far the counts of every walk go that a reading reaches. Assumes nothing.
 use Prim.Native.Nat.{ℕ, _+_, _≤_}
 use native.Mathlib.Omega.{arith}
-use mathlib.Core.Path.{_≡_, refl, subst}
+use mathlib.Core.Path.{_≡_, subst}
 use mathlib.Core.Bool.{Bool, true, false}
 use mathlib.Core.List.{List}
-use borrow.Author.Tests.{ltb-true}
 use lib.Dec.{ltb}
 use Rattle.rules.specs.Ranges.{mostRadials, mostSequence}
-use Rattle.rules.proofs.Allowed.{cuts-allowed}
 use Rattle.rules.proofs.Judged.{all-hold}
 use Rattle.radial.specs.Radial.{radialAt, radialCheck, radialRules}
 use Rattle.radial.proofs.Header.{header}
-use Rattle.task.specs.Task.{taskAt, taskCheck, taskRules}
 use Rattle.walk.specs.declared.due.Due.{Due}
 use Rattle.walk.specs.declared.due.Due.the-variants as due
 use Rattle.walk.specs.declared.due.Walk.{Walk}
-use Rattle.walk.specs.Due.{dueIf, atStart, radialDue}
-use Rattle.walk.specs.After.{afterCut, afterData, afterDataIf, closesCut}
+use Rattle.walk.specs.Due.{atStart, radialDue}
+use Rattle.walk.specs.After.{afterData, afterDataIf, closesCut}
 use Rattle.reading.specs.declared.step.Step.the-variants.{Took}
 use Rattle.reading.specs.Reading.{fuel, stop}
 use Rattle.reading.specs.Step.{takeGeneric, takeSite, takeTask, takeCut, takeRadial, takeMoment, takeData, cutIn, blockAt}
-use Rattle.reading.proofs.Run.{settle-took, settle-fine, took-inj, due-either, taken, last-holds}
-
--- ---- the counts
+use Rattle.reading.proofs.Run.{settle-took, settle-fine, took-inj, taken, last-holds}
 
 pub record Small (w : Walk) : Type 0 where
   pub whole : w .count .whole ≤ mostSequence
@@ -62,51 +56,3 @@ small f w e =
     subst Small e
     (last-holds true f Small (λ v m q h. small-on (v .due) _ v m h (taken f v m q .block)) (fuel f) atStart
     (record { whole = omega arith; in-cut = omega arith; sequence = omega arith }))
-
--- ---- the cut
-
-unfoldable Layered : Due → Walk → Type 0
-Layered due.Generic w = Unit {0}
-Layered due.Site w = Unit {0}
-Layered due.Task w = Unit {0}
-Layered due.Cut w = 1 ≤ w .plan .cuts
-Layered due.Radial w = w .count .cut ≤ w .plan .cuts
-Layered due.Moment w = w .count .cut ≤ w .plan .cuts
-Layered due.Data w = w .count .cut ≤ w .plan .cuts
-Layered due.Nothing w = Unit {0}
-
-layered-data : (more closes later : Bool) (w : Walk) (end : ℕ) → ltb (w .count .cut) (w .plan .cuts) ≡ later → w .count .cut ≤ w .plan .cuts
-    → Layered (afterDataIf more closes later w end .due) (afterDataIf more closes later w end)
-unfolding Layered dueIf
-layered-data true closes later w end e h = h
-layered-data false true true w end e h = let t = ltb-true (w .count .cut) (w .plan .cuts) e in omega arith
-layered-data false true false w end e h = tt
-layered-data false false true w end e h = h
-layered-data false false false w end e h = h
-
-layered-task : (p : List ℕ) (w m : Walk) → takeTask (taskAt p (w .at)) w ≡ Took m → Layered (m .due) m
-unfolding takeTask taskCheck Layered
-layered-task p w m e =
-    let r = taskAt p (w .at) in
-    let k = all-hold (taskRules r) (settle-fine _ _ _ m e) in
-    subst (λ (x : Walk). Layered (x .due) x) (settle-took _ _ _ m e) (cuts-allowed (r .«scan_type») (r .«cut_number») .0 (k .1 .1 .1 .0) .0)
-
-layered-on : (d : Due) (p : List ℕ) (w m : Walk) → Layered d w → blockAt d p w ≡ Took m → Layered (m .due) m
-unfolding blockAt takeGeneric takeSite takeCut takeRadial takeMoment takeData afterData Layered
-layered-on due.Generic p w m h e = subst (λ (x : Walk). Layered (x .due) x) (settle-took _ _ _ m e) tt
-layered-on due.Site p w m h e = subst (λ (x : Walk). Layered (x .due) x) (settle-took _ _ _ m e) tt
-layered-on due.Task p w m h e = layered-task p w m e
-layered-on due.Cut p w m h e = subst (λ (x : Walk). Layered (x .due) x) (settle-took _ _ _ m e) (due-either Layered _ due.Radial due.Cut (afterCut w (w .at + 256)) h h)
-layered-on due.Radial p w m h e = subst (λ (x : Walk). Layered (x .due) x) (settle-took _ _ _ m e) h
-layered-on due.Moment p w m h e = subst (λ (x : Walk). Layered (x .due) x) (settle-took _ _ _ m e) h
-layered-on due.Data p w m h e =
-    subst (λ (x : Walk). Layered (x .due) x) (took-inj _ m e)
-    (layered-data (ltb 0 (w .rest .todo)) (closesCut w) (ltb (w .count .cut) (w .plan .cuts)) w (w .at + w .rest .length) refl h)
-layered-on due.Nothing p w m h e = absurd (let z : _≡_ {A = ℕ} 0 1 = cc in omega arith)
-
-pub cut-known : (f : List ℕ) (w : Walk) → stop f ≡ w → w .due ≡ due.Radial → w .count .cut ≤ w .plan .cuts
-unfolding Layered
-cut-known f w e d =
-    subst (λ (x : Due). Layered x w) d
-    (subst (λ (x : Walk). Layered (x .due) x) e
-    (last-holds true f (λ x. Layered (x .due) x) (λ v m q h. layered-on (v .due) _ v m h (taken f v m q .block)) (fuel f) atStart tt))
