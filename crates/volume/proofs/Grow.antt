@@ -32,7 +32,7 @@ use Rattle.volume.specs.Accepted.{Begun, Accepted, nothing, generic, sit
 
 -- ---- one more at the end
 
-cuts-end : (cs : List Cut) (c : Cut) → CutsOk cs → CutFits c → Hold (cutRules c) → CutsOk (cs ++ (c ∷ []))
+pub cuts-end : (cs : List Cut) (c : Cut) → CutsOk cs → CutFits c → Hold (cutRules c) → CutsOk (cs ++ (c ∷ []))
 cuts-end [] c ok fits rules = (fits, rules, tt)
 cuts-end (d ∷ ds) c ok fits rules = (ok .0, ok .1, cuts-end ds c (ok .2) fits rules)
 
@@ -42,10 +42,10 @@ moments-end c r [] before p ok fits rules long = (fits, rules, long, tt)
 moments-end c r (m ∷ ms) before p ok fits rules long = (ok .0, ok .1, ok .2, moments-end c r ms (m ∷ before) p (ok .3) fits rules long)
 
 module _ (t : Task) (c : Cut) (k : ℕ) where
-  moved : (before inCut before' inCut' : ℕ) (b : VolumeRadial) → before ≡ before' → inCut ≡ inCut' → RadialOk t c k before inCut b → RadialOk t c k before' inCut' b
+  pub moved : (before inCut before' inCut' : ℕ) (b : VolumeRadial) → before ≡ before' → inCut ≡ inCut' → RadialOk t c k before inCut b → RadialOk t c k before' inCut' b
   moved before inCut before' inCut' b e d ok = subst (λ (i : ℕ). RadialOk t c k before' i b) d (subst (λ (i : ℕ). RadialOk t c k i inCut b) e ok)
 
-  unclosed-end : (l : List VolumeRadial) (before inCut : ℕ) (b : VolumeRadial) → UnclosedOk t c k before inCut l → RadialOk t c k (before + length l) (inCut + length l) b → (Closes t k b → ⊥) → UnclosedOk t c k before inCut (l ++ (b ∷ []))
+  pub unclosed-end : (l : List VolumeRadial) (before inCut : ℕ) (b : VolumeRadial) → UnclosedOk t c k before inCut l → RadialOk t c k (before + length l) (inCut + length l) b → (Closes t k b → ⊥) → UnclosedOk t c k before inCut (l ++ (b ∷ []))
   unclosed-end [] before inCut b ok r n = (moved (before + 0) (inCut + 0) before inCut b (omega arith) (omega arith) r, n, tt)
   unclosed-end (m ∷ ms) before inCut b ok r n =
       (ok .0, ok .1, unclosed-end ms (suc before) (suc inCut) b (ok .2) (moved (before + suc (length ms)) (inCut + suc (length ms)) (suc before + length ms) (suc inCut + length ms) b (omega arith) (omega arith) r) n)
@@ -54,13 +54,13 @@ module _ (t : Task) (c : Cut) (k : ℕ) where
   layer-more before inCut b [] o n ok = absurd ok
   layer-more before inCut b (m ∷ ms) o n ok = (o, n, ok)
 
-  layer-end : (l : List VolumeRadial) (before inCut : ℕ) (b : VolumeRadial) → UnclosedOk t c k before inCut l → RadialOk t c k (before + length l) (inCut + length l) b → Closes t k b → LayerOk t c k before inCut (l ++ (b ∷ []))
+  pub layer-end : (l : List VolumeRadial) (before inCut : ℕ) (b : VolumeRadial) → UnclosedOk t c k before inCut l → RadialOk t c k (before + length l) (inCut + length l) b → Closes t k b → LayerOk t c k before inCut (l ++ (b ∷ []))
   layer-end [] before inCut b ok r n = (moved (before + 0) (inCut + 0) before inCut b (omega arith) (omega arith) r, n)
   layer-end (m ∷ ms) before inCut b ok r n =
       layer-more before inCut m (ms ++ (b ∷ [])) (ok .0) (ok .1)
       (layer-end ms (suc before) (suc inCut) b (ok .2) (moved (before + suc (length ms)) (inCut + suc (length ms)) (suc before + length ms) (suc inCut + length ms) b (omega arith) (omega arith) r) n)
 
-layers-end : (t : Task) (cs : List Cut) (ls : List (List VolumeRadial)) (c : Cut) (l : List VolumeRadial) (k before : ℕ) → LayersOk t k before cs ls → LayerOk t c (k + length ls) (before + radialsIn ls) 0 l
+pub layers-end : (t : Task) (cs : List Cut) (ls : List (List VolumeRadial)) (c : Cut) (l : List VolumeRadial) (k before : ℕ) → LayersOk t k before cs ls → LayerOk t c (k + length ls) (before + radialsIn ls) 0 l
     → LayersOk t k before (cs ++ (c ∷ [])) (ls ++ (l ∷ []))
 layers-end t [] [] c l k before ok o =
     let y : k + 0 ≡ k = omega arith in
@@ -73,7 +73,7 @@ layers-end t (d ∷ ds) (m ∷ ms) c l k before ok o =
     let z : before + (length m + radialsIn ms) ≡ before + length m + radialsIn ms = omega arith in
     (ok .0, layers-end t ds ms c l (suc k) (before + length m) (ok .1) (subst (λ (i : ℕ). LayerOk t c i (before + length m + radialsIn ms) 0 l) y (subst (λ (i : ℕ). LayerOk t c (k + suc (length ms)) i 0 l) z o)))
 
-headed-as : (v : Volume) (cs : List Cut) (ls : List (List VolumeRadial)) → v .cuts ≡ cs → Headed v → Headed (record { generic = v .generic; site = v .site; task = v .task; cuts = cs; layers = ls })
+pub headed-as : (v : Volume) (cs : List Cut) (ls : List (List VolumeRadial)) → v .cuts ≡ cs → Headed v → Headed (record { generic = v .generic; site = v .site; task = v .task; cuts = cs; layers = ls })
 headed-as v cs ls e h =
     record {
       generic = h .generic;

@@ -1,0 +1,82 @@
+-- A file by its structure, up to the last radial that is kept, and the volume that it is to become. Assumes nothing.
+use Prim.Native.Nat.{ℕ, suc, _+_, _≤_}
+use mathlib.Core.List.{List, [], _∷_, _++_}
+use mathlib.Core.Path.{_≡_}
+use lib.ListN.{length}
+use Rattle.rules.specs.States.{closing}
+use Rattle.task.specs.declared.Task.{Task}
+use Rattle.reading.specs.declared.Stretch.{Stretch}
+use Rattle.volume.specs.Volume.{VolumeRadial, Volume, RadialOk, bytesOfRadial, bytesOfVolume}
+use Rattle.volume.specs.Accepted.{Begun, BegunOk, volumeOf, radialsIn}
+use Rattle.volume.specs.Meaning.{volumeStretches}
+use Rattle.mend.specs.Answers.{withState}
+use Rattle.mend.specs.Kept.{kept}
+
+-- where the radial behind a volume's beginning lies
+abbrev pub stretchBehind : Begun → VolumeRadial → Stretch
+stretchBehind b r =
+    record {
+      start = length (bytesOfVolume (volumeOf b));
+      end = length (bytesOfVolume (volumeOf b)) + length (bytesOfRadial r);
+      cut = suc (length (b .closed));
+    }
+
+-- the radial r behind b, the last that is kept: it keeps its rules, whether it closes its cut or not, and another of its cut is before it
+pub record Last (b : Begun) (r : VolumeRadial) : Type 0 where
+  pub begun : BegunOk b
+  pub radial : RadialOk (b .task) (b .cut) (suc (length (b .closed))) (radialsIn (b .closed) + length (b .now)) (length (b .now)) r
+  pub two : 1 ≤ length (b .now)
+
+-- a file with such a radial
+pub record View (f : List ℕ) : Type 0 where
+  pub begun : Begun
+  pub final : VolumeRadial
+  pub last : Last begun final
+  pub rest : List ℕ
+  pub bytes : bytesOfVolume (volumeOf begun) ++ (bytesOfRadial final ++ rest) ≡ f
+  pub kept : kept f ≡ volumeStretches (volumeOf begun) ++ (stretchBehind begun final ∷ [])
+
+-- ---- the volume that it becomes
+
+abbrev pub withCuts : Task → ℕ → Task
+withCuts t n =
+    record {
+      name = t .name;
+      description = t .description;
+      polarization = t .polarization;
+      «scan_type» = t .«scan_type»;
+      «pulse_width» = t .«pulse_width»;
+      «start_time» = t .«start_time»;
+      «cut_number» = n;
+      «noise_h» = t .«noise_h»;
+      «noise_v» = t .«noise_v»;
+      «calibration_h» = t .«calibration_h»;
+      «calibration_v» = t .«calibration_v»;
+      «noise_temperature_h» = t .«noise_temperature_h»;
+      «noise_temperature_v» = t .«noise_temperature_v»;
+      «zdr_calibration» = t .«zdr_calibration»;
+      «phase_calibration» = t .«phase_calibration»;
+      «ldr_calibration» = t .«ldr_calibration»;
+      reserved = t .reserved;
+    }
+
+-- as many cuts as have radials
+abbrev pub cutsOf : Begun → ℕ
+cutsOf b = suc (length (b .closed))
+
+abbrev pub closedTask : Begun → Task
+closedTask b = withCuts (b .task) (cutsOf b)
+
+-- the last radial with the state that closes the last cut
+abbrev pub closedRadial : Begun → VolumeRadial → VolumeRadial
+closedRadial b r = record { header = withState (r .header) (closing (b .task .«scan_type») (cutsOf b) (cutsOf b)); moments = r .moments }
+
+abbrev pub closedVolume : Begun → VolumeRadial → Volume
+closedVolume b r =
+    record {
+      generic = b .generic;
+      site = b .site;
+      task = closedTask b;
+      cuts = b .early ++ (b .cut ∷ []);
+      layers = b .closed ++ ((b .now ++ (closedRadial b r ∷ [])) ∷ []);
+    }
