@@ -338,7 +338,7 @@ module _ (f : List ℕ) (at : ℕ) where
       ∙ sym (append-snoc (part i f at) (getD f (at + i) 0) (drop (suc i) d)))
 
 -- a run of two lists, and of one element more
-run-append : {A : Type 0} (enc : A → List ℕ) (a b : List A) → run enc (a ++ b) ≡ run enc a ++ run enc b
+pub run-append : {A : Type 0} (enc : A → List ℕ) (a b : List A) → run enc (a ++ b) ≡ run enc a ++ run enc b
 unfolding run
 run-append enc [] b = refl
 run-append enc (x ∷ xs) b = ap (λ (l : List ℕ). enc x ++ l) (run-append enc xs b) ∙ sym (append-assoc (enc x) (run enc xs) (run enc b))

@@ -16,12 +16,14 @@ use Rattle.radial.specs.declared.Radial.{Radial}
 use Rattle.task.specs.declared.Task.{Task}
 use Rattle.radial.specs.Radial.{RadialFits}
 use Rattle.task.specs.Task.{TaskFits}
-use Rattle.volume.specs.Volume.{VolumeMoment, VolumeRadial, IsVolume, Headed, TaskOk, CutsOk, MomentsOk, RadialOk, LayerOk, LayersOk}
+use Rattle.volume.specs.Volume.{VolumeMoment, VolumeRadial, IsVolume, Headed, TaskOk, MomentsOk, RadialOk, LayerOk, LayersOk}
 use Rattle.volume.specs.Accepted.{Begun, UnclosedOk, radialsIn}
 use Rattle.volume.proofs.Grow.{layer-end, layers-end}
 use Rattle.volume.proofs.Tells.{same-number}
 use Rattle.mend.specs.Answers.{withState}
-use Rattle.mend.proofs.View.{Last, withCuts, cutsOf, closedTask, closedRadial, closedVolume}
+use Rattle.mend.specs.Made.{withCuts}
+use Rattle.mend.proofs.Splits.{cuts-apart}
+use Rattle.mend.proofs.View.{Last, cutsOf, closedTask, closedRadial, closedVolume}
 
 -- ---- states where the number of cuts differs
 
@@ -87,10 +89,6 @@ module _ (t : Task) (n : ℕ) where
         (layer-early c k before 0 l (omega arith) (ok .0), layers-early cs ls (suc k) (before + length l) (omega arith) (ok .1))
 
 -- ---- the blocks before the radials
-
-cuts-begin : (cs : List Cut) (c : Cut) (later : List Cut) → CutsOk (cs ++ (c ∷ later)) → CutsOk (cs ++ (c ∷ []))
-cuts-begin [] c later ok = (ok .0, ok .1, tt)
-cuts-begin (d ∷ ds) c later ok = (ok .0, ok .1, cuts-begin ds c later (ok .2))
 
 fits-fewer : (t : Task) (n : ℕ) → n ≤ t .«cut_number» → TaskFits t → TaskFits (withCuts t n)
 fits-fewer t n few f =
@@ -177,7 +175,7 @@ module _ (b : Begun) (r : VolumeRadial) (last : Last b r) where
         site = h .site;
         task = task-fewer (b .task) (cutsOf b) (omega arith) (omega arith) (h .task);
         number = omega arith;
-        cuts = cuts-begin (b .early) (b .cut) (b .later) (h .cuts);
+        cuts = cuts-apart (b .early) (b .cut) (b .later) (h .cuts) .0;
       }
 
   last-layer : LayerOk (closedTask b) (b .cut) (1 + length (b .closed)) (0 + radialsIn (b .closed)) 0 (b .now ++ (closedRadial b r ∷ []))

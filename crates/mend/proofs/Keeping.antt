@@ -1,8 +1,8 @@
 -- The last kept radial from the last two that have come: whatever is still to come, it is that of all radials. And which radials are kept,
--- by the last of them. Assumes nothing.
+-- by the last of them, and what further ones change. Assumes nothing.
 use Prim.Native.Nat.{ℕ}
 use mathlib.Core.Bool.{Bool, true, false, cond}
-use mathlib.Core.List.{List, [], _∷_, _++_}
+use mathlib.Core.List.{List, [], _∷_, _++_, append-assoc, append-nil}
 use mathlib.Core.Path.{_≡_, refl, sym, ap, _∙_}
 use lib.Dec.{eqb}
 use borrow.Author.Tests.{eq-eqb, ne-eqb}
@@ -52,20 +52,21 @@ unfolding lastCut
 cut-join b [] y = refl
 cut-join b (s ∷ x) y = cut-join (s .cut) x y
 
+-- all in front of others are kept
+kept-join : (b : ℕ) (x : List Stretch) (t : Stretch) (ts : List Stretch) → keptAfter b (x ++ (t ∷ ts)) ≡ x ++ keptAfter (lastCut b x) (t ∷ ts)
+unfolding keptAfter lastCut
+kept-join b [] t ts = refl
+kept-join b (s ∷ []) t ts = refl
+kept-join b (s ∷ (n ∷ ns)) t ts = ap (λ (x : List Stretch). s ∷ x) (kept-join (s .cut) (n ∷ ns) t ts)
+
 -- it is kept where it has the cut of the one before it
 kept-end : (b : ℕ) (ss : List Stretch) (l : Stretch) → keptAfter b (ss ++ (l ∷ [])) ≡ cond (eqb (l .cut) (lastCut b ss)) (ss ++ (l ∷ [])) ss
-unfolding keptAfter lastCut
-kept-end b [] l = refl
-kept-end b (s ∷ []) l = go (eqb (l .cut) (s .cut))
+unfolding keptAfter
+kept-end b ss l = kept-join b ss l [] ∙ go (eqb (l .cut) (lastCut b ss))
   where
-    go : (x : Bool) → _≡_ {A = List Stretch} (s ∷ cond x (l ∷ []) []) (cond x (s ∷ l ∷ []) (s ∷ []))
+    go : (x : Bool) → ss ++ cond x (l ∷ []) [] ≡ cond x (ss ++ (l ∷ [])) ss
     go true = refl
-    go false = refl
-kept-end b (s ∷ (n ∷ ns)) l = ap (λ (x : List Stretch). s ∷ x) (kept-end (s .cut) (n ∷ ns) l) ∙ go (eqb (l .cut) (lastCut (n .cut) ns))
-  where
-    go : (x : Bool) → _≡_ {A = List Stretch} (s ∷ cond x (n ∷ (ns ++ (l ∷ []))) (n ∷ ns)) (cond x (s ∷ n ∷ (ns ++ (l ∷ []))) (s ∷ n ∷ ns))
-    go true = refl
-    go false = refl
+    go false = append-nil ss
 
 pub kept-with : (b : ℕ) (ss : List Stretch) (l : Stretch) → l .cut ≡ lastCut b ss → keptAfter b (ss ++ (l ∷ [])) ≡ ss ++ (l ∷ [])
 kept-with b ss l e = kept-end b ss l ∙ ap (λ (x : Bool). cond x (ss ++ (l ∷ [])) ss) (eq-eqb (l .cut) (lastCut b ss) e)
@@ -77,3 +78,23 @@ pub last-end : (d : Found) (ss : List Stretch) (l : Stretch) → lastOr d (ss ++
 unfolding lastOr
 last-end d [] l = refl
 last-end d (s ∷ ss) l = last-end (There s) ss l
+
+-- ---- the kept ones are the first
+
+pub kept-first : (b : ℕ) (ss : List Stretch) → (later : List Stretch) × (ss ≡ keptAfter b ss ++ later)
+unfolding keptAfter
+kept-first b [] = ([], refl)
+kept-first b (s ∷ []) = go (eqb (s .cut) b)
+  where
+    go : (x : Bool) → (later : List Stretch) × (_≡_ {A = List Stretch} (s ∷ []) (cond x (s ∷ []) [] ++ later))
+    go true = ([], refl)
+    go false = (s ∷ [], refl)
+kept-first b (s ∷ (n ∷ ns)) = let k = kept-first (s .cut) (n ∷ ns) in (k .0, ap (λ (x : List Stretch). s ∷ x) (k .1))
+
+-- and stay so when others come
+pub kept-grows : (b : ℕ) (x y : List Stretch) → (later : List Stretch) × (keptAfter b (x ++ y) ≡ keptAfter b x ++ later)
+kept-grows b x [] = ([], ap (keptAfter b) (append-nil x) ∙ sym (append-nil (keptAfter b x)))
+kept-grows b x (t ∷ ts) =
+    let k = kept-first b x in
+    let last = keptAfter (lastCut b x) (t ∷ ts) in
+    (k .0 ++ last, kept-join b x t ts ∙ ap (λ (z : List Stretch). z ++ last) (k .1) ∙ append-assoc (keptAfter b x) (k .0) last)

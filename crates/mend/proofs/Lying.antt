@@ -1,7 +1,7 @@
 -- Where the last kept radial lies: its cut is one of the task's, and it stands in the file behind their blocks. Assumes nothing.
-use Prim.Native.Nat.{ℕ, suc, _+_, _*_, _≤_}
+use Prim.Native.Nat.{ℕ, suc, _+_}
 use native.Mathlib.Omega.{arith}
-use mathlib.Core.List.{List, [], _∷_, _++_}
+use mathlib.Core.List.{List, _∷_, _++_}
 use mathlib.Core.Path.{_≡_, sym, ap, subst, _∙_}
 use lib.ListN.{length, length-append}
 use Rattle.le.specs.Le.{run, Bytes}
@@ -10,7 +10,6 @@ use Rattle.radial.specs.Radial.{radialBytes}
 use Rattle.rules.proofs.Allowed.{cuts-allowed}
 use Rattle.rules.proofs.Numbers.{mostCuts-most}
 use Rattle.task.specs.declared.Task.{Task}
-use Rattle.reading.specs.declared.Found.{Found}
 use Rattle.reading.specs.declared.Found.the-variants.{There, Nowhere}
 use Rattle.reading.specs.declared.Stretch.{Stretch}
 use Rattle.volume.specs.Volume.{bytesOfMoment, bytesOfRadial, bytesOfVolume}
@@ -40,8 +39,8 @@ unfolding lastOr
 viewed f bs s e = by (seen f bs)
   where
     by : Seen f → Viewed f s
-    by (some v) = let h = last-seen f v in record { view = v; is = cc }
-    by (none k n) = let h = ap (lastOr Nowhere) k in absurd (let z : _≡_ {A = ℕ} 0 1 = cc in omega arith)
+    by (some v t) = let h = last-seen f v in record { view = v; is = cc }
+    by (none k t) = let h = ap (lastOr Nowhere) k in absurd (let z : _≡_ {A = ℕ} 0 1 = cc in omega arith)
 
 -- ---- where it lies
 
@@ -60,7 +59,7 @@ module _ (f : List ℕ) (v : View f) where
       let t = ap (λ (t : Task). t .«cut_number») task-is in
       omega arith
 
-  view-lies : Lies f (stretchBehind (v .begun) (v .final))
+  pub view-lies : Lies f (stretchBehind (v .begun) (v .final))
   view-lies =
       let b = v .begun in
       let r = v .final in

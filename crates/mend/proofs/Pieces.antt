@@ -4,7 +4,7 @@ use Prim.Native.Nat.{ℕ, _+_, _-_, _≤_}
 use native.Mathlib.Nat.{zero-add}
 use native.Mathlib.Omega.{arith}
 use mathlib.Core.List.{List, [], _++_, append-assoc, append-nil}
-use mathlib.Core.Path.{_≡_, refl, sym, ap, ap₂, _∙_}
+use mathlib.Core.Path.{_≡_, sym, ap, ap₂, _∙_}
 use lib.ListN.{length, take, drop, length-append}
 use lib.Seq.{take-at, drop-at}
 use Rattle.le.specs.Le.{bytes, part, patch, stored}
@@ -99,6 +99,10 @@ module _ (f : List ℕ) (s : Stretch) (l : Lies f s) where
 
 -- ---- what is made of them
 
+-- taken apart before the state
+pub regroup-state : (a n b r x : List ℕ) → a ++ (n ++ (b ++ (r ++ x))) ≡ (a ++ (n ++ (b ++ r))) ++ x
+regroup-state a n b r x = simp append-assoc
+
 module _ (f : List ℕ) (s : Stretch) (p : Pieces f s) where
   abbrev number : List ℕ
   number = bytes 4 (s .cut)
@@ -120,6 +124,16 @@ module _ (f : List ℕ) (s : Stretch) (p : Pieces f s) where
       let h2 = p .to-radials in
       let h3 = p .to-state in
       let h4 = p .to-end in
+      simp length-append (omega arith)
+
+  -- where its last radial begins
+  pub state-at : length (p .a ++ (number ++ (p .b ++ p .r))) ≡ s .start - (behindCut (cutNumber f) - behindCut (s .cut))
+  state-at =
+      let n = length-bytes 4 (s .cut) in
+      let h0 = p .to-number in
+      let h1 = p .to-dropped in
+      let h2 = p .to-radials in
+      let h3 = p .to-state in
       simp length-append (omega arith)
 
   changed-is : changed f s ≡ (p .a ++ (number ++ (p .b ++ (p .c ++ p .r)))) ++ (state ++ (p .d ++ p .rest))
@@ -262,9 +276,6 @@ module _ (f : List ℕ) (s : Stretch) (p : Pieces f s) where
       regroup : (a n b r o d x : List ℕ) → ((a ++ (n ++ b)) ++ (r ++ (o ++ d))) ++ x ≡ a ++ (n ++ (b ++ (r ++ (o ++ (d ++ x)))))
       regroup a n b r o d x = simp append-assoc
 
-      regroup-state : (a n b r x : List ℕ) → a ++ (n ++ (b ++ (r ++ x))) ≡ (a ++ (n ++ (b ++ r))) ++ x
-      regroup-state a n b r x = simp append-assoc
-
       regroup-end : (a n b r o d x : List ℕ) → (a ++ (n ++ (b ++ r))) ++ (o ++ (d ++ x)) ≡ (a ++ (n ++ (b ++ (r ++ (o ++ d))))) ++ x
       regroup-end a n b r o d x = simp append-assoc
 
@@ -289,15 +300,6 @@ module _ (f : List ℕ) (s : Stretch) (p : Pieces f s) where
           let k = length-append (p .a ++ (p .n ++ p .b)) (p .r ++ (p .o ++ p .d)) in
           let m = front-long in
           omega arith
-
-      state-at : length (p .a ++ (number ++ (p .b ++ p .r))) ≡ s .start - (behindCut (cutNumber f) - behindCut (s .cut))
-      state-at =
-          let n = length-bytes 4 (s .cut) in
-          let h0 = p .to-number in
-          let h1 = p .to-dropped in
-          let h2 = p .to-radials in
-          let h3 = p .to-state in
-          simp length-append (omega arith)
 
   -- the same by four stores, each of which lies in the room
   pub stores : (room r1 r2 r3 r4 : List ℕ) → length ofPieces ≤ length room

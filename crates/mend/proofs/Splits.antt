@@ -3,7 +3,7 @@
 use Prim.Native.Nat.{ℕ, suc, _+_, _*_, _≤_}
 use native.Mathlib.Omega.{arith}
 use mathlib.Core.List.{List, [], _∷_, _++_}
-use mathlib.Core.Path.{_≡_, refl, sym, ap, subst, _∙_}
+use mathlib.Core.Path.{_≡_, refl, ap, subst}
 use lib.ListN.{length, length-append}
 use Rattle.le.specs.Le.{run}
 use Rattle.cut.specs.declared.Cut.{Cut}
@@ -80,6 +80,12 @@ layers-last t (d ∷ ds) (m ∷ ms) c l k before ok =
     let z : before + length m + radialsIn ms ≡ before + (length m + radialsIn ms) = omega arith in
     ((ok .0, x .0), subst (λ (i : ℕ). LayerOk t c i (before + (length m + radialsIn ms)) 0 l) y (subst (λ (i : ℕ). LayerOk t c (suc k + length ms) i 0 l) z (x .1)))
 
+-- ---- the cuts up to the last that is kept, and those behind it
+
+pub cuts-apart : (cs : List Cut) (c : Cut) (later : List Cut) → CutsOk (cs ++ (c ∷ later)) → CutsOk (cs ++ (c ∷ [])) × CutsOk later
+cuts-apart [] c later ok = ((ok .0, ok .1, tt), ok .2)
+cuts-apart (d ∷ ds) c later ok = let x = cuts-apart ds c later (ok .2) in ((ok .0, ok .1, x .0), x .1)
+
 -- ---- how long, and where
 
 pub end-is : (at : ℕ) (l : List VolumeRadial) → endOf at l ≡ at + length (run bytesOfRadial l)
@@ -96,7 +102,7 @@ ends-is at (l ∷ ls) =
     let k = length-append (run bytesOfRadial l) (run (run bytesOfRadial) ls) in
     omega arith
 
-cuts-long : (cs : List Cut) → CutsOk cs → length (run cutBytes cs) ≡ 256 * length cs
+pub cuts-long : (cs : List Cut) → CutsOk cs → length (run cutBytes cs) ≡ 256 * length cs
 unfolding run
 cuts-long [] ok = refl
 cuts-long (c ∷ cs) ok =

@@ -11,6 +11,7 @@ use Rattle.volume.specs.Accepted.{Begun, BegunOk, volumeOf, radialsIn}
 use Rattle.volume.specs.Meaning.{volumeStretches}
 use Rattle.mend.specs.Answers.{withState}
 use Rattle.mend.specs.Kept.{kept}
+use Rattle.mend.specs.Made.{withCuts}
 
 -- where the radial behind a volume's beginning lies
 abbrev pub stretchBehind : Begun → VolumeRadial → Stretch
@@ -37,28 +38,6 @@ pub record View (f : List ℕ) : Type 0 where
   pub kept : kept f ≡ volumeStretches (volumeOf begun) ++ (stretchBehind begun final ∷ [])
 
 -- ---- the volume that it becomes
-
-abbrev pub withCuts : Task → ℕ → Task
-withCuts t n =
-    record {
-      name = t .name;
-      description = t .description;
-      polarization = t .polarization;
-      «scan_type» = t .«scan_type»;
-      «pulse_width» = t .«pulse_width»;
-      «start_time» = t .«start_time»;
-      «cut_number» = n;
-      «noise_h» = t .«noise_h»;
-      «noise_v» = t .«noise_v»;
-      «calibration_h» = t .«calibration_h»;
-      «calibration_v» = t .«calibration_v»;
-      «noise_temperature_h» = t .«noise_temperature_h»;
-      «noise_temperature_v» = t .«noise_temperature_v»;
-      «zdr_calibration» = t .«zdr_calibration»;
-      «phase_calibration» = t .«phase_calibration»;
-      «ldr_calibration» = t .«ldr_calibration»;
-      reserved = t .reserved;
-    }
 
 -- as many cuts as have radials
 abbrev pub cutsOf : Begun → ℕ

@@ -171,7 +171,7 @@ module _ (f : List ℕ) where
   pub record Front (v : Volume) (rest : List ℕ) : Type 0 where
     pub task : taskBlock f ≡ v .task
     pub cuts : CutsIn 1 (v .cuts)
-    radials : At f (firstPlace v) (run (run bytesOfRadial) (v .layers) ++ rest)
+    pub radials : At f (firstPlace v) (run (run bytesOfRadial) (v .layers) ++ rest)
 
   pub front : (v : Volume) (rest : List ℕ) → Headed v → bytesOfVolume v ++ rest ≡ f → Front v rest
   unfolding taskAt

@@ -3,7 +3,6 @@ use mathlib.Core.Bool.{Bool, cond}
 use mathlib.Core.Path.{sym, ap, _∙_}
 use borrow.Author.Needs.{needs}
 use borrow.Author.Tests.{eq-eqb, ne-eqb}
-use lib.Dec.{eqb}
 use Rattle.reading.specs.declared.Found.the-variants.{There}
 use Rattle.mend.specs.Kept.{cutOf, keptOf}
 use Rattle.mend.proofs.keep.kept_of.Statement.{statement}
