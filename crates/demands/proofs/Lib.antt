@@ -4,6 +4,7 @@ pub mod Decoded
 pub mod Floats
 pub mod Hopes
 pub mod Imports
+pub mod Mends
 pub mod One
 pub mod States
 pub mod Wedges

@@ -5,11 +5,11 @@ use mathlib.Core.Logic.{_↔_}
 use mathlib.Core.Path.{_≡_, refl, sym, ap, _∙_}
 use Prim.Native.Nat.{ℕ, _+_, _≤_}
 use native.Mathlib.Omega.{arith}
-use borrow.Author.Tests.{le-ltb, lt-leb, lt-ltb, ltb-true, leb-false}
+use borrow.Author.Tests.{le-leb, le-ltb, lt-leb, lt-ltb, ltb-true, leb-false}
 use lib.Dec.{eqb, leb, ltb}
 use lib.IntN.{ℤ}
 use lib.ListN.{length}
-use Rattle.le.specs.Le.{stored}
+use Rattle.le.specs.Le.{stored, Bytes}
 use Rattle.le.proofs.Laws.{stored-no}
 use Rattle.le.proofs.Tests.{both}
 use Rattle.wedge.specs.declared.Wedge.{Wedge}
@@ -25,6 +25,8 @@ use Rattle.moment.specs.Moment.{momentAt}
 use Rattle.moments.specs.Moments.{dataAt}
 use Rattle.walk.specs.declared.due.Walk.{Walk}
 use Rattle.walk.specs.Due.{atStart, isEnd}
+use Rattle.reading.specs.declared.Found.{Found}
+use Rattle.reading.specs.declared.Found.the-variants as found
 use Rattle.reading.specs.declared.Reading.{Reading}
 use Rattle.reading.specs.declared.Stretch.{Stretch}
 use Rattle.reading.specs.declared.Verdict.{Verdict}
@@ -60,7 +62,12 @@ use Rattle.writer.specs.Put.{lastTests, checked, answerTo, outcome, Outcome, pu
 use Rattle.writer.proofs.Same.{tests-agreement}
 use Rattle.writer.proofs.Told.{puts-same}
 use Rattle.shelf.proofs.Bringing.{refused-all}
-use Rattle.demands.specs.One.{Ending, is-complete, is-open, is-refused, Questions, Row, Tallied, Indexed, WriterRefuses, Unchanged, Determined, DemandOne}
+use Rattle.mend.specs.declared.Mended.the-variants as mended
+use Rattle.mend.specs.Kept.{lastKept}
+use Rattle.mend.specs.Mend as mend
+use Rattle.mend.proofs.Longest.{nothing}
+use Rattle.mend.proofs.Tellings.{told-mended-one}
+use Rattle.demands.specs.One.{Ending, is-complete, is-open, is-refused, Questions, Row, Tallied, Indexed, MendRefused, WriterRefuses, Unchanged, Determined, DemandOne}
 
 -- ---- every file has an ending
 
@@ -149,6 +156,15 @@ indexes : (f : List ℕ) (room : ℕ) → Indexed f room
 unfolding answerOf
 indexes f room = record { index-36 = λ e. rw e; index-33 = λ e l. rw (e, lt-leb (length (indexOf f)) room l) }
 
+mends : (f : List ℕ) (room : ℕ) → Bytes f → MendRefused f room
+unfolding mend.answerBy
+mends f room bs =
+    record {
+      mend-54 = λ n. rw (nothing f bs .1 n);
+      mend-33 = λ s e l. rw (e, lt-leb (length (mend.mended f s)) room l);
+      written = λ s e l. rw (e, le-leb (length (mend.mended f s)) room l);
+    }
+
 put-yes : (b : Block) (w : Walk) (room : List ℕ) → agrees w room ≡ true → put b w room ≡ putOn b w room
 unfolding put
 put-yes b w room a = rw a
@@ -232,6 +248,20 @@ index-kept f before after n r = go (complete f) (leb (length (indexOf f)) (lengt
     go true false p q = rw p at (r .room) ∙ too-long (indexOf f) before q
     go false t p q = rw p at (r .room)
 
+mended-kept : (f before after : List ℕ) (n : ℕ) → mend.Mends f before (mended.Refused n) after → after ≡ before
+unfolding mend.answerBy mend.roomBy
+mended-kept f before after n r = go (lastKept f) refl
+  where
+    go : (w : Found) → lastKept f ≡ w → after ≡ before
+    go found.Nowhere e = rw e at (r .room)
+    go (found.There s) e = by (leb (length (mend.mended f s)) (length before)) refl
+      where
+        by : (t : Bool) → leb (length (mend.mended f s)) (length before) ≡ t → after ≡ before
+        by true q =
+            let a : refused n 0 ≡ answered (mend.said (length (mend.mended f s)) (mend.reportOf f s)) = rw (e, q) at (r .answer) in
+            absurd (let z : _≡_ {A = ℕ} 0 1 = cc in omega arith)
+        by false q = rw e at (r .room) ∙ too-long (mend.mended f s) before q
+
 tally-kept : (old : Tally) (n p : ℕ) → lentOf old (refused n p) .tally ≡ old
 unfolding lentOf
 tally-kept old n p = refl
@@ -247,6 +277,7 @@ unchanged =
       imported = λ g s t c f room n p e.
           let r = refused-all g s t c f room n p e in
           (ap (λ (o : Outcome). o .walk) r, ap (λ (o : Outcome). o .room) r);
+      mended = mended-kept;
       block = λ n room at bs h. stored-no n room at bs (lt-leb (at + n) (length room) h);
     }
 
@@ -285,6 +316,7 @@ determined =
       row = λ c codes k h a b k₁ k₂ h₁ h₂ x y. row-one x y;
       row-asked = row-told-one;
       index = λ f before a b x y p q. (told-once a b (p .answer ∙ sym (q .answer)), p .room ∙ sym (q .room));
+      mended = λ f before a b x y p q. (told-mended-one a b (p .answer ∙ sym (q .answer)), p .room ∙ sym (q .room));
       put = puts-same;
     }
 
@@ -296,6 +328,7 @@ demand-one =
       rows = rows;
       tallies = tallies;
       indexes = indexes;
+      mends = mends;
       writer = writer-refuses;
       unchanged = unchanged;
       determined = determined;

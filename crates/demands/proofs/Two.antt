@@ -34,6 +34,7 @@ use Rattle.demands.proofs.Cuts.{many-cuts-hold}
 use Rattle.demands.proofs.Floats.{floats}
 use Rattle.demands.proofs.Hopes.{hopes-hold}
 use Rattle.demands.proofs.Imports.{imports}
+use Rattle.demands.proofs.Mends.{mends}
 use Rattle.demands.proofs.States.{state-rule}
 use Rattle.demands.proofs.Decoded.{decoded-rows}
 use Rattle.demands.proofs.Whys.{whys}
@@ -115,5 +116,6 @@ demand-two =
       trips = trips;
       writing = writing;
       imports = imports;
+      mends = mends;
       index = index-right;
     }

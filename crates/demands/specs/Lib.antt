@@ -5,6 +5,7 @@ pub mod Wedges
 pub mod Decoded
 pub mod Whys
 pub mod Imports
+pub mod Mends
 pub mod One
 pub mod States
 pub mod Two

@@ -9,7 +9,7 @@ use mathlib.Core.Path.{_≡_}
 use Prim.Native.Nat.{ℕ, _+_, _≤_, _<_}
 use lib.IntN.{ℤ}
 use lib.ListN.{length}
-use Rattle.le.specs.Le.{stored}
+use Rattle.le.specs.Le.{stored, Bytes}
 use Rattle.wedge.specs.declared.Wedge.{Wedge}
 use Rattle.wedge.specs.Wedge.{wedgeOk}
 use Rattle.gates.specs.declared.Coding.{Coding}
@@ -28,7 +28,7 @@ use Rattle.moment.specs.Moment.{momentAt}
 use Rattle.moments.specs.Moments.{dataAt}
 use Rattle.walk.specs.declared.due.Walk.{Walk}
 use Rattle.walk.specs.Due.{isEnd, atStart}
-use Rattle.reading.specs.declared.Found.the-variants.{Nowhere}
+use Rattle.reading.specs.declared.Found.the-variants.{There, Nowhere}
 use Rattle.reading.specs.declared.Reading.{Reading}
 use Rattle.reading.specs.declared.Stretch.{Stretch}
 use Rattle.reading.specs.declared.Verdict.{Verdict}
@@ -58,6 +58,11 @@ use Rattle.writer.specs.Agree.{sameKind, agrees, TestsAgreement}
 use Rattle.writer.specs.Block.{Block, kindOf, saysOf, fitsOf, lengthOf}
 use Rattle.writer.specs.Put.{Outcome, Puts, put, putOn}
 use Rattle.shelf.specs.Import.{importOf}
+use Rattle.mend.specs.declared.Mended.{Mended}
+use Rattle.mend.specs.declared.Mended.the-variants as mended
+use Rattle.mend.specs.Closed.{NoTwo}
+use Rattle.mend.specs.Kept.{lastKept}
+use Rattle.mend.specs.Mend as mend
 
 -- a file is complete, open with the missing bytes, or refused with number and place
 pub data Ending (f : List ℕ) : Type 0 where
@@ -105,6 +110,14 @@ pub record Indexed (f : List ℕ) (room : ℕ) : Type 0 where
   pub index-36 : complete f ≡ false → answerOf f room ≡ 36 ∷ 0 ∷ []
   pub index-33 : complete f ≡ true → room < length (indexOf f) → answerOf f room ≡ 33 ∷ 0 ∷ []
 
+-- mending is refused by 54 where no cut has two whole radials, then by 33 where the room is shorter than the volume, both with place 0, and
+-- by nothing else
+pub record MendRefused (f : List ℕ) (room : ℕ) : Type 0 where
+  pub mend-54 : NoTwo f → mend.answerOf f room ≡ refused 54 0
+  pub mend-33 : (s : Stretch) → lastKept f ≡ There s → room < length (mend.mended f s) → mend.answerOf f room ≡ refused 33 0
+  pub written : (s : Stretch) → lastKept f ≡ There s → length (mend.mended f s) ≤ room
+      → mend.answerOf f room ≡ answered (mend.said (length (mend.mended f s)) (mend.reportOf f s))
+
 -- the writer refuses in this order: 37 with place 0, where state and room do not agree; 25 after the end; 34 for another kind
 -- of block; what the reader says of the block; 35 for data of another length; 33 for a room that ends too early
 pub record WriterRefuses (b : Block) (w : Walk) (room : List ℕ) : Type 0 where
@@ -119,7 +132,7 @@ pub record WriterRefuses (b : Block) (w : Walk) (room : List ℕ) : Type 0 where
   pub short-room : agrees w room ≡ true → isEnd (w .due) ≡ false → sameKind (w .due) (kindOf b) ≡ true
       → (m : Walk) → saysOf b room w ≡ step.Took m → fitsOf b w ≡ true → length room < w .at + lengthOf b → put b w room .answer ≡ Refused 33 (w .at)
 
--- after a refusal the writer's state and room, the buffers of a row, the tally record and the room of an index or of a
+-- after a refusal the writer's state and room, the buffers of a row, the tally record and the room of an index, of a mended volume or of a
 -- record are what they were; a decoded row is lent only to be read. An import that is refused leaves the room as it was, and the state
 -- that it tells has begun no volume
 pub record Unchanged : Type 0 where
@@ -131,10 +144,11 @@ pub record Unchanged : Type 0 where
   pub index : (f before after : List ℕ) (n : ℕ) → Writes f before (index.Refused n) after → after ≡ before
   pub imported : (g : Generic) (s : Site) (t : Task) (c f room : List ℕ) (n p : ℕ) → importOf g s t c f room .answer ≡ Refused n p
       → (importOf g s t c f room .walk ≡ atStart) × (importOf g s t c f room .room ≡ room)
+  pub mended : (f before after : List ℕ) (n : ℕ) → mend.Mends f before (mended.Refused n) after → after ≡ before
   pub block : (n : ℕ) (room : List ℕ) (at : ℕ) (bs : List ℕ) → length room < at + n → stored n room at bs ≡ room
 
 -- two results that keep one promise are the same: those of reading, of a gate, of what is told of it and of its answer, of
--- a row with its buffers, of codes and of a file, of a decoded row, of a tally, of an index and of a put or an import with its room; every
+-- a row with its buffers, of codes and of a file, of a decoded row, of a tally, of an index, of a mended volume and of a put or an import with its room; every
 -- other promise is an equation
 pub record Determined : Type 0 where
   pub verdict : (a b : Verdict) → verdictTold a ≡ verdictTold b → a ≡ b
@@ -149,6 +163,7 @@ pub record Determined : Type 0 where
   pub row-asked : (f : List ℕ) (at : Where) (k : List ℕ) (h : List ℤ) (a b : RowAnswer) (k₁ k₂ : List ℕ) (h₁ h₂ : List ℤ) → RowTold f at k h a k₁ h₁ → RowTold f at k h b k₂ h₂
       → (a ≡ b) × (k₁ ≡ k₂) × (h₁ ≡ h₂)
   pub index : (f before : List ℕ) (a b : Answer) (x y : List ℕ) → Writes f before a x → Writes f before b y → (a ≡ b) × (x ≡ y)
+  pub mended : (f before : List ℕ) (a b : Mended) (x y : List ℕ) → mend.Mends f before a x → mend.Mends f before b y → (a ≡ b) × (x ≡ y)
   pub put : (o : Outcome) (p q : Put) (held other : List ℕ) → Puts o p held → Puts o q other → (p ≡ q) × (held ≡ other)
 
 pub record DemandOne : Type 0 where
@@ -157,6 +172,7 @@ pub record DemandOne : Type 0 where
   pub rows : (f : List ℕ) (at : Where) (k k′ : List ℕ) (h h′ : List ℤ) (r : RowAnswer) → Row f at k k′ h h′ r
   pub tallies : (f : List ℕ) (cut t : ℕ) (w : Wedge) → Tallied f cut t w
   pub indexes : (f : List ℕ) (room : ℕ) → Indexed f room
+  pub mends : (f : List ℕ) (room : ℕ) → Bytes f → MendRefused f room
   pub writer : (b : Block) (w : Walk) (room : List ℕ) → WriterRefuses b w room
   pub unchanged : Unchanged
   pub determined : Determined

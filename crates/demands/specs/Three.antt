@@ -1,12 +1,14 @@
 -- DEMAND 3: growth never changes what was said.
 -- B is any file longer than A that begins with A: A ++ C, with a byte at least in C.
-use mathlib.Core.List.{List}
+use mathlib.Core.List.{List, _++_}
 use Prim.Native.Nat.{ℕ, _<_}
 use lib.ListN.{length}
+use Rattle.le.specs.Le.{Bytes}
 use Rattle.reading.specs.Growth.{Grows}
 use Rattle.ask.specs.Growth.{AnswersGrow}
 use Rattle.decoded.specs.Growth.{ChecksGrow}
 use Rattle.citing.specs.Growth.{CitesGrow}
+use Rattle.mend.specs.Growth.{MendGrows}
 
 pub record Growth (A C : List ℕ) : Type 0 where
   -- radials and verdicts: the whole radials of A begin those of B, with the same bytes; refused stays refused, complete
@@ -19,6 +21,8 @@ pub record Growth (A C : List ℕ) : Type 0 where
   pub checks : ChecksGrow A C
   -- what is cited of a refused A, and for a gate of a radial whole in A, is cited in B
   pub cites : CitesGrow A C
+  -- what is kept of A in mending is the first of what is kept of B; while no further radial is whole, the volume stays
+  pub mends : Bytes (A ++ C) → MendGrows A C
 
 abbrev pub DemandThree : Type 0
 DemandThree = (A C : List ℕ) → 0 < length C → Growth A C

@@ -55,6 +55,7 @@ use Rattle.demands.specs.Whys.{Whys}
 use Rattle.demands.specs.Floats.{Floats}
 use Rattle.demands.specs.Hopes.{Hopes}
 use Rattle.demands.specs.Imports.{Imports}
+use Rattle.demands.specs.Mends.{Mends}
 use Rattle.demands.specs.States.{StateRule}
 use Rattle.demands.specs.Wedges.{Wedges}
 
@@ -177,4 +178,6 @@ pub record DemandTwo : Type 0 where
   pub writing : Writing
   -- what an import of an old shelf brings over, and in which order it is refused (`Imports`)
   pub imports : Imports
+  -- what a broken volume is closed to, and what the report says of it (`Mends`)
+  pub mends : Mends
   pub index : IndexRight

@@ -16,3 +16,4 @@ pub mod Longest
 pub mod Handed
 pub mod Growing
 pub mod Mending
+pub mod Tellings
