@@ -14,23 +14,16 @@ use crate::telling::print_taken;
 use generic::Generic;
 use libc::STDIN_FILENO;
 use printing::behind;
+use printing::fill;
 use printing::first;
 use printing::word;
 use site::Site;
 use task::Task;
 use writer::order::Answer;
 
-fn fill(room: &mut [u8]) {
-    let mut i = 0;
-    while i < room.len() {
-        room[i] = 0xAA;
-        i += 1;
-    }
-}
-
 // Our records are all there.
 fn bring(records: &[u8], old: &[u8], room: &mut [u8], output: u32) {
-    fill(room);
+    fill(room, 0xAA);
     let put = shelf::import(
         Generic::read(records, 0),
         Site::read(records, Generic::SIZE),

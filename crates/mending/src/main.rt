@@ -15,20 +15,13 @@ use crate::words::say_written;
 use libc::STDIN_FILENO;
 use mend::Mended;
 use printing::behind;
+use printing::fill;
 use printing::first;
 use printing::word;
 
-fn fill(room: &mut [u8]) {
-    let mut i = 0;
-    while i < room.len() {
-        room[i] = 0xAA;
-        i += 1;
-    }
-}
-
 // Output 1 is for the command line.
 fn close(file: &[u8], room: &mut [u8], output: u32) {
-    fill(room);
+    fill(room, 0xAA);
     let mended = mend::mend(file, room);
     match mended {
         Mended::Written(size, report) => {

@@ -1,7 +1,8 @@
-// What the programs share: words, numbers, counts and listings on standard output, and the start and the rest of a slice.
+// What the programs share: words, numbers, counts and listings on standard output, the start and the rest of a slice, and a room filled
+// and shown in one number.
 ghost use mathlib.Core.Path.{_≡_};
 ghost use lib.IntN.{natAbs};
-ghost use lib.ListN.{take, drop};
+ghost use lib.ListN.{length, take, drop, replicate};
 ghost use Rattle.printing.specs.Sum.{mixedOf, sumFrom};
 use gates::Counts;
 use libc::STDOUT_FILENO;
@@ -111,6 +112,17 @@ pub fn sum(s: &[u8]) -> u32
         i += 1;
     }
     n
+}
+
+// One byte all over a room, so that what is stored there afterwards shows.
+pub fn fill(room: &mut [u8], byte: u8)
+    ensures { λ _. ⌜ now (room .exit) ≡ replicate (length (now (room .entry))) byte ⌝ }
+{
+    let mut i = 0;
+    while i < room.len() {
+        room[i] = byte;
+        i += 1;
+    }
 }
 
 // A number behind a sign.
