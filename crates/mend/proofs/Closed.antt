@@ -1,4 +1,5 @@
--- The volume that a beginning and the radial behind it become is one: early radials keep their rules where the task has fewer cuts, and the last closes the last cut. Assumes nothing.
+-- The volume that a beginning and the radial behind it become is one: early radials keep their rules where the task has fewer cuts, and the
+-- last closes the last cut. Assumes nothing.
 use Prim.Native.Nat.{ℕ, zero, suc, _+_, _^_, _≤_, _<_}
 use native.Mathlib.Omega.{arith}
 use mathlib.Core.Path.{_≡_, refl, sym, subst, _∙_}
@@ -19,9 +20,9 @@ use Rattle.task.specs.Task.{TaskFits}
 use Rattle.volume.specs.Volume.{VolumeMoment, VolumeRadial, IsVolume, Headed, TaskOk, MomentsOk, RadialOk, LayerOk, LayersOk}
 use Rattle.volume.specs.Accepted.{Begun, UnclosedOk, radialsIn}
 use Rattle.volume.proofs.Grow.{layer-end, layers-end}
-use Rattle.volume.proofs.Tells.{same-number}
 use Rattle.mend.specs.Answers.{withState}
 use Rattle.mend.specs.Made.{withCuts}
+use Rattle.mend.proofs.Behind.{begun-cuts}
 use Rattle.mend.proofs.Splits.{cuts-apart}
 use Rattle.mend.proofs.View.{Last, cutsOf, closedTask, closedRadial, closedVolume}
 
@@ -31,9 +32,9 @@ closing-early : (scan n m k : ℕ) → k < n → k < m → closing scan n k ≡ 
 unfolding closing
 closing-early scan n m k h i = rw (lt-ltb k n h, lt-ltb k m i)
 
-state-early : (scan n m k inCut s : ℕ) → k < n → k < m → stateOk scan n k inCut s ≡ stateOk scan m k inCut s
+state-same : (scan n m k inCut s : ℕ) → closing scan n k ≡ closing scan m k → stateOk scan n k inCut s ≡ stateOk scan m k inCut s
 unfolding stateOk
-state-early scan n m k inCut s h i = rw (closing-early scan n m k h i)
+state-same scan n m k inCut s e = rw e
 
 closing-not-one : (scan n k : ℕ) → 1 ≡ closing scan n k → ⊥
 unfolding closing
@@ -67,26 +68,25 @@ module _ (t : Task) (n : ℕ) where
       let s = state-open (t .«scan_type») (t .«cut_number») n k inCut (r .header .state) (ok .0 .rules .0) (ok .1) in
       (recast c k before inCut r (s .0) (ok .0), s .1, now-open c k (suc before) (suc inCut) rs (ok .2))
 
-  module _ (few : n ≤ t .«cut_number») where
-    radial-early : (c : Cut) (k before inCut : ℕ) (r : VolumeRadial) → k < n → RadialOk t c k before inCut r → RadialOk (withCuts t n) c k before inCut r
-    radial-early c k before inCut r h ok =
-        recast c k before inCut r (state-early (t .«scan_type») n (t .«cut_number») k inCut (r .header .state) h (omega arith) ∙ ok .rules .0) ok
+  layer-early : (c : Cut) (k before inCut : ℕ) (l : List VolumeRadial) → closing (t .«scan_type») n k ≡ closing (t .«scan_type») (t .«cut_number») k → LayerOk t c k before inCut l → LayerOk (withCuts t n) c k before inCut l
+  layer-early c k before inCut l e = go before inCut l
+    where
+      one : (before inCut : ℕ) (r : VolumeRadial) → RadialOk t c k before inCut r → RadialOk (withCuts t n) c k before inCut r
+      one before inCut r ok = recast c k before inCut r (state-same (t .«scan_type») n (t .«cut_number») k inCut (r .header .state) e ∙ ok .rules .0) ok
 
-    closing-same : (k : ℕ) → k < n → closing (t .«scan_type») (t .«cut_number») k ≡ closing (t .«scan_type») n k
-    closing-same k h = closing-early (t .«scan_type») (t .«cut_number») n k (omega arith) h
+      go : (before inCut : ℕ) (l : List VolumeRadial) → LayerOk t c k before inCut l → LayerOk (withCuts t n) c k before inCut l
+      go before inCut [] ok = absurd ok
+      go before inCut (r ∷ []) ok = (one before inCut r (ok .0), ok .1 ∙ sym e)
+      go before inCut (r ∷ (m ∷ ms)) ok = (one before inCut r (ok .0), λ z. ok .1 (z ∙ e), go (suc before) (suc inCut) (m ∷ ms) (ok .2))
 
-    layer-early : (c : Cut) (k before inCut : ℕ) (l : List VolumeRadial) → k < n → LayerOk t c k before inCut l → LayerOk (withCuts t n) c k before inCut l
-    layer-early c k before inCut [] h ok = absurd ok
-    layer-early c k before inCut (r ∷ []) h ok = (radial-early c k before inCut r h (ok .0), ok .1 ∙ closing-same k h)
-    layer-early c k before inCut (r ∷ (m ∷ ms)) h ok =
-        (radial-early c k before inCut r h (ok .0), λ e. ok .1 (e ∙ sym (closing-same k h)), layer-early c k (suc before) (suc inCut) (m ∷ ms) h (ok .2))
-
-    layers-early : (cs : List Cut) (ls : List (List VolumeRadial)) (k before : ℕ) → k + length ls ≤ n → LayersOk t k before cs ls → LayersOk (withCuts t n) k before cs ls
-    layers-early [] [] k before h ok = tt
-    layers-early [] (l ∷ ls) k before h ok = absurd ok
-    layers-early (c ∷ cs) [] k before h ok = absurd ok
-    layers-early (c ∷ cs) (l ∷ ls) k before h ok =
-        (layer-early c k before 0 l (omega arith) (ok .0), layers-early cs ls (suc k) (before + length l) (omega arith) (ok .1))
+  layers-early : n ≤ t .«cut_number» → (cs : List Cut) (ls : List (List VolumeRadial)) (k before : ℕ) → k + length ls ≤ n → LayersOk t k before cs ls → LayersOk (withCuts t n) k before cs ls
+  layers-early few [] [] k before h ok = tt
+  layers-early few [] (l ∷ ls) k before h ok = absurd ok
+  layers-early few (c ∷ cs) [] k before h ok = absurd ok
+  layers-early few (c ∷ cs) (l ∷ ls) k before h ok = (
+    layer-early c k before 0 l (closing-early (t .«scan_type») n (t .«cut_number») k (omega arith) (omega arith)) (ok .0),
+    layers-early few cs ls (suc k) (before + length l) (omega arith) (ok .1),
+  )
 
 -- ---- the blocks before the radials
 
@@ -156,19 +156,10 @@ module _ (b : Begun) (r : VolumeRadial) (last : Last b r) where
         moments = moments-kept (b .cut) (r .header) _ [] (r .moments) (ok .moments);
       }
 
-  fewer : (1 + length (b .closed) ≤ b .task .«cut_number») × (length (b .early) ≡ length (b .closed))
-  fewer =
-      let ok = last .begun in
-      let n = ok .headed .number in
-      let l = length-append (b .early) (b .cut ∷ b .later) in
-      let same = same-number (b .task) 1 0 (b .early) (b .closed) (ok .closed) in
-      (omega arith, same)
-
   headed : Headed (closedVolume b r)
   headed =
       let h = last .begun .headed in
-      let same = fewer .1 in
-      let few = fewer .0 in
+      let cuts = begun-cuts b (last .begun) in
       let l = length-append (b .early) (b .cut ∷ []) in
       record {
         generic = h .generic;
@@ -191,7 +182,7 @@ module _ (b : Begun) (r : VolumeRadial) (last : Last b r) where
 
   layers : LayersOk (closedTask b) 1 0 (b .early ++ (b .cut ∷ [])) (closedVolume b r .layers)
   layers =
-      let few = fewer .0 in
+      let cuts = begun-cuts b (last .begun) in
       let early = layers-early (b .task) (cutsOf b) (omega arith) (b .early) (b .closed) 1 0 (omega arith) (last .begun .closed) in
       layers-end (closedTask b) (b .early) (b .closed) (b .cut) _ 1 0 early last-layer
 

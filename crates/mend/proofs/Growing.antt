@@ -3,9 +3,8 @@
 use Prim.Native.Nat.{ℕ, _+_, _-_, _<_}
 use native.Mathlib.Omega.{arith}
 use mathlib.Core.List.{List, [], _∷_, _++_, append-assoc}
-use mathlib.Core.Path.{_≡_, refl, sym, ap, ap₂, subst, _∙_}
+use mathlib.Core.Path.{_≡_, refl, sym, ap, ap₂, _∙_}
 use lib.ListN.{length}
-use lib.Seq.{take-at}
 use Rattle.le.specs.Le.{bytes, Bytes}
 use Rattle.le.proofs.Laws.{part-in}
 use Rattle.rules.specs.States.{closing}
@@ -18,25 +17,24 @@ use Rattle.reading.specs.declared.Stretch.{Stretch}
 use Rattle.reading.specs.Reading.{stretches, told}
 use Rattle.reading.proofs.Grown.{grows}
 use Rattle.volume.specs.InPlace.{taskBlock}
-use Rattle.hope.proofs.Told.{front-bytes}
 use Rattle.mend.specs.Closed.{HandedBack}
 use Rattle.mend.specs.Growth.{SameMended, MendGrows}
 use Rattle.mend.specs.Kept.{keptAfter, lastOr, lastKept}
 use Rattle.mend.specs.Mend.{behindCut, cutNumberPlace, fieldOf, mended, Lies}
 use Rattle.mend.proofs.Keeping.{kept-grows}
 use Rattle.mend.proofs.Lying.{lies}
-use Rattle.mend.proofs.Pieces.{Pieces, pieces, mended-is}
+use Rattle.mend.proofs.Pieces.{Pieces, pieces, mended-is, split-bytes}
 
 -- ---- what lies in A
 
 module _ (A C : List ℕ) (s : Stretch) (l : Lies A s) where
   task-same : taskBlock (A ++ C) ≡ taskBlock A
   unfolding taskAt
-  task-same = let h = l .start in let k = l .header in let e = l .end in ap taskOf (part-in 256 A C 160 (omega arith))
+  task-same = ap taskOf (part-in 256 A C 160 (omega arith))
 
   header-same : radialAt (A ++ C) (s .start) ≡ radialAt A (s .start)
   unfolding radialAt
-  header-same = let k = l .header in let e = l .end in ap radialOf (part-in 64 A C (s .start) (omega arith))
+  header-same = ap radialOf (part-in 64 A C (s .start) (omega arith))
 
   longer : Pieces (A ++ C) s
   longer =
@@ -96,7 +94,7 @@ mend-grows A C some bs complete =
     record {
       later = k .0;
       more = ap (keptAfter 0) (g .radials) ∙ k .1;
-      same = same-mended A C (subst Bytes (take-at A C (length A) refl) (front-bytes (length A) (A ++ C) bs));
+      same = same-mended A C (split-bytes A C bs .0);
       still = ap (λ (ss : List Stretch). lastOr Nowhere (keptAfter 0 ss));
       complete = complete;
     }

@@ -3,9 +3,8 @@ use Prim.Native.Nat.{ℕ, _-_}
 use native.Mathlib.Omega.{arith}
 use borrow.Author.Tests.{eq-eqb}
 use mathlib.Core.List.{List, [], _∷_, _++_, append-nil}
-use mathlib.Core.Path.{_≡_, refl, sym, ap, ap₂, subst, _∙_}
+use mathlib.Core.Path.{_≡_, sym, ap, ap₂, subst, _∙_}
 use lib.ListN.{length, length-append}
-use lib.Seq.{take-at}
 use Rattle.le.specs.Le.{le, Bytes}
 use Rattle.le.proofs.Here.{split}
 use Rattle.le.proofs.Laws.{le-own, part-in}
@@ -18,13 +17,14 @@ use Rattle.volume.specs.Meaning.{Holds, volumeStretches}
 use Rattle.hope.specs.Meaning.{plainly, Hopeful}
 use Rattle.hope.proofs.Made.{none-bytes}
 use Rattle.hope.proofs.Meaning.{means}
-use Rattle.hope.proofs.Told.{front-bytes}
 use Rattle.mend.specs.declared.report.Field.the-variants.{Same}
 use Rattle.mend.specs.Closed.{HandedBack}
 use Rattle.mend.specs.Mend.{behindCut, cutNumber, fieldOf, lastState, mended}
 use Rattle.mend.proofs.Bytes.{unbroken}
+use Rattle.mend.proofs.Fields.{state-in}
 use Rattle.mend.proofs.Lying.{cuts-are, last-seen, view-lies}
-use Rattle.mend.proofs.Reports.{state-in, state-written}
+use Rattle.mend.proofs.Pieces.{split-bytes}
+use Rattle.mend.proofs.Reports.{state-written}
 use Rattle.mend.proofs.Seen.{ClosedView, volume-view}
 use Rattle.mend.proofs.View.{stretchBehind}
 
@@ -46,7 +46,7 @@ unnamed place written old new e = rw (eq-eqb old new e)
 
 module _ (A C : List ℕ) (bs : Bytes (A ++ C)) (whole : told A ≡ 0 ∷ []) where
   own : Bytes A
-  own = subst Bytes (take-at A C (length A) refl) (front-bytes (length A) (A ++ C) bs)
+  own = split-bytes A C bs .0
 
   h : Holds A
   h = means .holds A own whole
@@ -86,7 +86,6 @@ module _ (A C : List ℕ) (bs : Bytes (A ++ C)) (whole : told A ≡ 0 ∷ []) wh
   state : radialAt f (s .start) .state ≡ lastState f s
   state =
       let l = view-lies f (view .view) in
-      let header = l .header in
       let e = end in
       let n = number in
       let z : s .start - (behindCut (cutNumber f) - behindCut (s .cut)) ≡ s .start = omega arith in

@@ -4,6 +4,8 @@ pub mod Pieces
 pub mod Own
 pub mod View
 pub mod Splits
+pub mod Behind
+pub mod Fields
 pub mod Closed
 pub mod Seen
 pub mod Lying

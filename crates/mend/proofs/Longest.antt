@@ -19,16 +19,17 @@ use Rattle.reading.specs.Tiling.{AllWhole, WholeRadial}
 use Rattle.reading.proofs.Radials.{all-whole}
 use Rattle.volume.specs.Accepted.{volumeOf}
 use Rattle.volume.specs.InPlace.{ofCut}
-use Rattle.volume.specs.Meaning.{Holds, firstPlace, volumeStretches}
+use Rattle.volume.specs.Meaning.{Holds, volumeStretches}
 use Rattle.hope.proofs.Meaning.{means}
 use Rattle.ask.proofs.Growing.{nth-kept, nth-of}
 use Rattle.mend.specs.Closed.{Which, all, but-last, NoTwo}
 use Rattle.mend.specs.Kept.{kept, lastOr, lastKept}
 use Rattle.mend.specs.Made.{MadeOf}
+use Rattle.mend.proofs.Behind.{begun-cut}
 use Rattle.mend.proofs.Keeping.{lastCut, kept-first}
 use Rattle.mend.proofs.Lying.{last-seen}
 use Rattle.mend.proofs.Nth.{nth-within, nth-end, nth-among, some-last, last-of, of-join, of-one, of-most, of-nth}
-use Rattle.mend.proofs.Seen.{Seen, seen, some, none, Tail, volume-view, layers-cut}
+use Rattle.mend.proofs.Seen.{Seen, seen, some, none, Tail, volume-view}
 use Rattle.mend.proofs.Seen as tail
 use Rattle.mend.proofs.View.{stretchBehind, View}
 
@@ -42,12 +43,12 @@ module _ (f : List ℕ) (v : View f) where
   before = volumeStretches (volumeOf (v .begun))
 
   same-cut : lastCut 0 before ≡ last .cut
-  same-cut = layers-cut 1 (firstPlace (volumeOf (v .begun))) (v .begun .closed) (v .begun .now) (v .last .two) ∙ omega arith
+  same-cut = begun-cut (v .begun) (v .last .two)
 
   some-before : 1 ≤ length before
   some-before = let c = same-cut in some-last before (omega arith)
 
-  pub two-kept : 2 ≤ ofCut (last .cut) (kept f)
+  two-kept : 2 ≤ ofCut (last .cut) (kept f)
   two-kept =
       let l = last-of 0 before some-before in
       let n = of-nth before (length before) (l .radial) (l .is) in

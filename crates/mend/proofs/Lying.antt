@@ -1,7 +1,7 @@
 -- Where the last kept radial lies: its cut is one of the task's, and it stands in the file behind their blocks. Assumes nothing.
 use Prim.Native.Nat.{ℕ, suc, _+_}
 use native.Mathlib.Omega.{arith}
-use mathlib.Core.List.{List, _∷_, _++_}
+use mathlib.Core.List.{List, _++_}
 use mathlib.Core.Path.{_≡_, sym, ap, subst, _∙_}
 use lib.ListN.{length, length-append}
 use Rattle.le.specs.Le.{run, Bytes}
@@ -17,12 +17,11 @@ use Rattle.volume.specs.Accepted.{volumeOf}
 use Rattle.volume.specs.InPlace.{taskBlock}
 use Rattle.volume.specs.Meaning.{volumeStretches}
 use Rattle.volume.proofs.Placed.{front}
-use Rattle.volume.proofs.Tells.{same-number}
 use Rattle.mend.specs.Kept.{kept, lastOr, lastKept}
 use Rattle.mend.specs.Mend.{cutNumber, Lies}
+use Rattle.mend.proofs.Behind.{volume-long, begun-cuts}
 use Rattle.mend.proofs.Keeping.{last-end}
 use Rattle.mend.proofs.Seen.{Seen, seen, some, none}
-use Rattle.mend.proofs.Splits.{volume-long}
 use Rattle.mend.proofs.View.{stretchBehind, View}
 
 -- ---- the last kept radial is the one that the structure has
@@ -52,10 +51,7 @@ module _ (f : List ℕ) (v : View f) where
   -- as many cuts as have radials, and the dropped ones
   pub cuts-are : suc (length (v .begun .closed)) + length (v .begun .later) ≡ cutNumber f
   cuts-are =
-      let b = v .begun in
-      let n = same-number (b .task) 1 0 (b .early) (b .closed) (v .last .begun .closed) in
-      let k = length-append (b .early) (b .cut ∷ b .later) in
-      let h = v .last .begun .headed .number in
+      let cuts = begun-cuts (v .begun) (v .last .begun) in
       let t = ap (λ (t : Task). t .«cut_number») task-is in
       omega arith
 

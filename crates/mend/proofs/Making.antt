@@ -2,11 +2,10 @@
 use Prim.Native.Nat.{ℕ, _+_, _-_, _≤_}
 use native.Mathlib.Omega.{arith}
 use mathlib.Core.List.{List, [], _++_, append-assoc, append-nil}
-use mathlib.Core.Path.{_≡_, refl, sym, ap, ap₂, subst, _∙_}
+use mathlib.Core.Path.{_≡_, sym, ap, ap₂, subst, _∙_}
 use lib.ListN.{length, drop, length-append}
-use lib.Seq.{take-at, drop-at, drop-drop}
+use lib.Seq.{drop-drop}
 use Rattle.le.specs.Le.{bytes, part, Bytes}
-use Rattle.le.proofs.Here.{drop-bytes}
 use Rattle.le.proofs.Laws.{length-bytes, part-in, part-past}
 use Rattle.cut.specs.Cut.{cutAt, cutOf}
 use Rattle.generic.specs.Generic.{genericAt, genericOf}
@@ -20,7 +19,6 @@ use Rattle.reading.specs.Reading.{bytesOf, nth, stretches}
 use Rattle.volume.specs.InPlace.{taskBlock}
 use Rattle.volume.proofs.Placed as placed
 use Rattle.hope.proofs.Made.{append-bytes, number-bytes}
-use Rattle.hope.proofs.Told.{front-bytes}
 use Rattle.ask.proofs.Growing.{nth-kept}
 use Rattle.ask.specs.Answers.{radialTold}
 use Rattle.mend.specs.Answers.{withState}
@@ -30,20 +28,14 @@ use Rattle.mend.specs.Mend.{behindCut, lastState, mended}
 use Rattle.mend.proofs.Bytes.{closed-bytes, view-pieces}
 use Rattle.mend.proofs.Closed.{is-volume}
 use Rattle.mend.proofs.Lying.{task-is, cuts-are, view-lies}
+use Rattle.mend.proofs.Nth.{Nth, pairs-nth}
 use Rattle.mend.proofs.Own.{alike}
-use Rattle.mend.proofs.Paired.{Nth, pairs-nth}
-use Rattle.mend.proofs.Pieces.{Pieces, mended-is}
+use Rattle.mend.proofs.Pieces.{Pieces, mended-is, split-bytes}
 use Rattle.mend.proofs.Reports.{cuts-written}
 use Rattle.mend.proofs.View.{stretchBehind, View, closedVolume}
 use Rattle.mend.proofs.Whole.{complete, pairs, radials}
 
 -- ---- bytes
-
-split-bytes : (x y : List ℕ) → Bytes (x ++ y) → Bytes x × Bytes y
-split-bytes x y bs = (
-  subst Bytes (take-at x y (length x) refl) (front-bytes (length x) (x ++ y) bs),
-  subst Bytes (drop-at x y (length x) refl) (drop-bytes (x ++ y) (length x) (let l = length-append x y in omega arith) bs),
-)
 
 pub mended-bytes : (f : List ℕ) (s : Stretch) → Pieces f s → Bytes f → Bytes (mended f s)
 mended-bytes f s p bs =
@@ -63,7 +55,6 @@ module _ (f : List ℕ) (s : Stretch) (p : Pieces f s) where
   -- up to the cut number the two are the same
   front-same : (n at : ℕ) → at + n ≤ 336 → part n (mended f s) at ≡ part n f at
   front-same n at h =
-      let l = p .to-number in
       ap (λ (x : List ℕ). part n x at) (mended-is f s p)
       ∙ part-in n (p .a) _ at (omega arith)
       ∙ sym (ap (λ (x : List ℕ). part n x at) (p .file) ∙ part-in n (p .a) _ at (omega arith))
@@ -71,17 +62,13 @@ module _ (f : List ℕ) (s : Stretch) (p : Pieces f s) where
   -- and from there to the end of the last kept cut's block
   cuts-same : (n at : ℕ) → 340 ≤ at → at + n ≤ behindCut (s .cut) → part n (mended f s) at ≡ part n f at
   cuts-same n at h k =
-      let l = p .to-number in
-      let old = p .number in
       let new = length-bytes 4 (s .cut) in
-      let lb = p .to-dropped in
       in-cuts (p .a) (bytes 4 (s .cut)) _ _ (mended-is f s p) (omega arith)
       ∙ sym (in-cuts (p .a) (p .n) _ _ (p .file) (omega arith))
     where
       in-cuts : (a x y g : List ℕ) → g ≡ a ++ (x ++ (p .b ++ y)) → length a + length x ≡ 340 → part n g at ≡ part n (p .b) (at - 340)
       in-cuts a x y g e l =
           let q = length-append a x in
-          let lb = p .to-dropped in
           let z : at ≡ length (a ++ x) + (at - 340) = omega arith in
           ap (λ (i : List ℕ). part n i at) (e ∙ sym (append-assoc a x (p .b ++ y)))
           ∙ ap (part n ((a ++ x) ++ (p .b ++ y))) z

@@ -8,7 +8,7 @@ use Rattle.le.specs.Le.{Bytes}
 use Rattle.reading.specs.declared.Found.the-variants.{Nowhere}
 use Rattle.reading.specs.Reading.{stretches}
 use Rattle.mend.specs.Closed.{Closed, Mending}
-use Rattle.mend.specs.Kept.{kept, lastKept}
+use Rattle.mend.specs.Kept.{lastKept}
 use Rattle.mend.specs.Made.{MadeOf}
 use Rattle.mend.proofs.Keeping.{kept-first}
 use Rattle.mend.proofs.Longest.{longest, nothing, two-made, which}

@@ -1,4 +1,5 @@
--- Radials by their number, and how many are of a cut. Assumes nothing.
+-- Radials by their number, two lists of them side by side, and how many are of a cut: plain laws of lists, which what is kept and what is
+-- answered go by. Assumes nothing.
 use Prim.Native.Nat.{ℕ, zero, suc, _+_, _≤_}
 use native.Mathlib.Omega.{arith}
 use mathlib.Core.Bool.{Bool, true, false, cond}
@@ -55,6 +56,42 @@ unfolding nth lastCut
 last-of b [] h = absurd (omega arith)
 last-of b (x ∷ []) h = record { radial = x; is = refl; cut = refl }
 last-of b (x ∷ (y ∷ ys)) h = let l = last-of (x .cut) (y ∷ ys) (omega arith) in record { radial = l .radial; is = l .is; cut = l .cut }
+
+-- ---- two lists of radials, two by two
+
+pub data Pairs (P : Stretch → Stretch → Type 0) : List Stretch → List Stretch → Type 0 where
+  none : Pairs P [] []
+  more : {s u : Stretch} {ss us : List Stretch} → P s u → Pairs P ss us → Pairs P (s ∷ ss) (u ∷ us)
+
+-- the n-th of each
+pub record Nth (P : Stretch → Stretch → Type 0) (ss us : List Stretch) (n : ℕ) : Type 0 where
+  pub s : Stretch
+  pub u : Stretch
+  pub here : nth ss n ≡ There s
+  pub there : nth us n ≡ There u
+  pub pair : P s u
+
+module _ {P : Stretch → Stretch → Type 0} where
+  pub pairs-long : {ss us : List Stretch} → Pairs P ss us → length us ≡ length ss
+  pairs-long none = refl
+  pairs-long (more p r) = ap suc (pairs-long r)
+
+  pub pairs-join : {ss us ts ws : List Stretch} → Pairs P ss us → Pairs P ts ws → Pairs P (ss ++ ts) (us ++ ws)
+  pairs-join none q = q
+  pairs-join (more p r) q = more p (pairs-join r q)
+
+  pub pairs-as : {Q : Stretch → Stretch → Type 0} → ((s u : Stretch) → P s u → Q s u) → {ss us : List Stretch} → Pairs P ss us → Pairs Q ss us
+  pairs-as each none = none
+  pairs-as each (more {s} {u} p r) = more (each s u p) (pairs-as each r)
+
+  pub pairs-nth : {ss us : List Stretch} → Pairs P ss us → (n : ℕ) → 1 ≤ n → n ≤ length ss → Nth P ss us n
+  unfolding nth
+  pairs-nth none n low high = absurd (omega arith)
+  pairs-nth (more p r) zero low high = absurd (omega arith)
+  pairs-nth (more {s} {u} p r) (suc zero) low high = record { s = s; u = u; here = refl; there = refl; pair = p }
+  pairs-nth (more p r) (suc (suc n)) low high =
+      let x = pairs-nth r (suc n) (omega arith) (omega arith) in
+      record { s = x .s; u = x .u; here = x .here; there = x .there; pair = x .pair }
 
 -- ---- how many are of a cut
 

@@ -4,24 +4,39 @@ use Prim.Native.Nat.{ℕ, _+_, _-_, _≤_}
 use native.Mathlib.Nat.{zero-add}
 use native.Mathlib.Omega.{arith}
 use mathlib.Core.List.{List, [], _++_, append-assoc, append-nil}
-use mathlib.Core.Path.{_≡_, sym, ap, ap₂, _∙_}
+use mathlib.Core.Path.{_≡_, refl, sym, ap, ap₂, subst, _∙_}
 use lib.ListN.{length, take, drop, length-append}
 use lib.Seq.{take-at, drop-at}
-use Rattle.le.specs.Le.{bytes, part, patch, stored}
-use Rattle.le.proofs.Laws.{length-bytes, length-part, length-patch, patch-join, stored-in}
-use Rattle.le.proofs.Here.{cut-here}
+use Rattle.le.specs.Le.{bytes, part, patch, stored, Bytes}
+use Rattle.le.proofs.Laws.{length-bytes, length-part, length-patch, laid-first, laid-next, stored-in}
+use Rattle.le.proofs.Here.{cut-here, drop-bytes}
 use Rattle.reading.specs.declared.Stretch.{Stretch}
+use Rattle.hope.proofs.Told.{front-bytes}
 use Rattle.mend.specs.Mend.{cutNumber, lastState, changed, without, behindCut, mended, Lies}
 
 -- ---- lists
 
 -- a field in the middle, changed
-pub patch-mid : (a x y b : List ℕ) (at : ℕ) → length a ≡ at → length y ≡ length x → patch (a ++ (x ++ b)) at y ≡ a ++ (y ++ b)
+patch-mid : (a x y b : List ℕ) (at : ℕ) → length a ≡ at → length y ≡ length x → patch (a ++ (x ++ b)) at y ≡ a ++ (y ++ b)
 unfolding patch
 patch-mid a x y b at l e =
     let n : length (a ++ x) ≡ at + length y = let k = length-append a x in omega arith in
     ap₂ (λ (p q : List ℕ). p ++ y ++ q) (take-at a (x ++ b) at l) (ap (drop (at + length y)) (sym (append-assoc a x b)) ∙ drop-at (a ++ x) b (at + length y) n)
     ∙ append-assoc a y b
+
+-- one in what was laid at the front of a room
+patch-laid : (room a x y b : List ℕ) (at : ℕ) → length a ≡ at → length y ≡ length x → patch (patch room 0 (a ++ (x ++ b))) at y ≡ patch room 0 (a ++ (y ++ b))
+unfolding patch
+patch-laid room a x y b at l e =
+    let behind = drop (0 + length (a ++ (x ++ b))) room in
+    let same : length (a ++ (x ++ b)) ≡ length (a ++ (y ++ b)) = simp length-append (omega arith) in
+    ap (λ (z : List ℕ). patch z at y) (regroup x behind)
+    ∙ patch-mid a x y (b ++ behind) at l e
+    ∙ sym (regroup y behind)
+    ∙ ap (λ (k : ℕ). (a ++ (y ++ b)) ++ drop (0 + k) room) same
+  where
+    regroup : (z w : List ℕ) → (a ++ (z ++ b)) ++ w ≡ a ++ (z ++ (b ++ w))
+    regroup z w = simp append-assoc
 
 -- a stretch in the middle, left out
 without-mid : (a x b : List ℕ) (i j : ℕ) → length a ≡ i → length a + length x ≡ j → without (a ++ (x ++ b)) i j ≡ a ++ b
@@ -30,8 +45,15 @@ without-mid a x b i j l e =
     ap₂ (λ (p q : List ℕ). p ++ q) (take-at a (x ++ b) i l) (ap (drop j) (sym (append-assoc a x b)) ∙ drop-at (a ++ x) b j n)
 
 -- a stretch in the middle, by itself
-mid : (a x b : List ℕ) (i j : ℕ) → length a ≡ i → length x ≡ j → take j (drop i (a ++ (x ++ b))) ≡ x
+pub mid : (a x b : List ℕ) (i j : ℕ) → length a ≡ i → length x ≡ j → take j (drop i (a ++ (x ++ b))) ≡ x
 mid a x b i j l e = ap (take j) (drop-at a (x ++ b) i l) ∙ take-at x b j e
+
+-- the bytes of each of two runs
+pub split-bytes : (x y : List ℕ) → Bytes (x ++ y) → Bytes x × Bytes y
+split-bytes x y bs = (
+  subst Bytes (take-at x y (length x) refl) (front-bytes (length x) (x ++ y) bs),
+  subst Bytes (drop-at x y (length x) refl) (drop-bytes (x ++ y) (length x) (let l = length-append x y in omega arith) bs),
+)
 
 -- from one place to another, and on
 to : (f : List ℕ) (i j : ℕ) → i ≤ j → j ≤ length f → drop i f ≡ part (j - i) f i ++ drop j f
@@ -66,11 +88,6 @@ module _ (f : List ℕ) (s : Stretch) (l : Lies f s) where
   pieces =
       let front = behindCut (s .cut) in
       let back = behindCut (cutNumber f) in
-      let first = l .first in
-      let last = l .last in
-      let start = l .start in
-      let header = l .header in
-      let end = l .end in
       record {
         a = part 336 f 0;
         n = part 4 f 336;
@@ -97,6 +114,40 @@ module _ (f : List ℕ) (s : Stretch) (l : Lies f s) where
         to-end = let k = length-part (s .end - (s .start + 4)) f (s .start + 4) in omega arith;
       }
 
+-- ---- the front up to the dropped blocks and the back behind them, whatever the two fields hold
+
+module _ (f : List ℕ) (s : Stretch) (p : Pieces f s) where
+  abbrev front : List ℕ → List ℕ
+  front n = p .a ++ (n ++ p .b)
+
+  abbrev back : List ℕ → List ℕ
+  back o = p .r ++ (o ++ p .d)
+
+  front-long : (n : List ℕ) → length n ≡ 4 → length (front n) ≡ behindCut (s .cut)
+  front-long n h = simp length-append (omega arith)
+
+  back-long : (o : List ℕ) → length o ≡ 4 → length (back o) ≡ s .end - behindCut (cutNumber f)
+  back-long o h = simp length-append (omega arith)
+
+  kept-long : (n o : List ℕ) → length n ≡ 4 → length o ≡ 4 → length (front n ++ (p .c ++ back o)) ≡ s .end
+  kept-long n o h k = simp length-append (omega arith)
+
+  apart : f ≡ (front (p .n) ++ (p .c ++ back (p .o))) ++ p .rest
+  apart = p .file ∙ simp append-assoc
+
+  -- the two runs that are copied
+  front-run : take (behindCut (s .cut)) f ≡ front (p .n)
+  front-run =
+      ap (take (behindCut (s .cut))) (apart ∙ append-assoc (front (p .n)) (p .c ++ back (p .o)) (p .rest))
+      ∙ take-at (front (p .n)) ((p .c ++ back (p .o)) ++ p .rest) (behindCut (s .cut)) (front-long (p .n) (p .number))
+
+  back-run : take (s .end - behindCut (cutNumber f)) (drop (behindCut (cutNumber f)) f) ≡ back (p .o)
+  back-run =
+      let whole : f ≡ (front (p .n) ++ p .c) ++ (back (p .o) ++ p .rest) = apart ∙ simp append-assoc in
+      let long : length (front (p .n) ++ p .c) ≡ behindCut (cutNumber f) = simp length-append (omega arith) in
+      ap (λ (x : List ℕ). take (s .end - behindCut (cutNumber f)) (drop (behindCut (cutNumber f)) x)) whole
+      ∙ mid (front (p .n) ++ p .c) (back (p .o)) (p .rest) (behindCut (cutNumber f)) (s .end - behindCut (cutNumber f)) long (back-long (p .o) (p .state))
+
 -- ---- what is made of them
 
 -- taken apart before the state
@@ -116,192 +167,42 @@ module _ (f : List ℕ) (s : Stretch) (p : Pieces f s) where
 
   -- how long it is, by the places
   pub long : length ofPieces ≡ s .end - (behindCut (cutNumber f) - behindCut (s .cut))
-  long =
-      let n = length-bytes 4 (s .cut) in
-      let o = length-bytes 4 (lastState f s) in
-      let h0 = p .to-number in
-      let h1 = p .to-dropped in
-      let h2 = p .to-radials in
-      let h3 = p .to-state in
-      let h4 = p .to-end in
-      simp length-append (omega arith)
+  long = let n = length-bytes 4 (s .cut) in let o = length-bytes 4 (lastState f s) in simp length-append (omega arith)
 
   -- where its last radial begins
   pub state-at : length (p .a ++ (number ++ (p .b ++ p .r))) ≡ s .start - (behindCut (cutNumber f) - behindCut (s .cut))
-  state-at =
-      let n = length-bytes 4 (s .cut) in
-      let h0 = p .to-number in
-      let h1 = p .to-dropped in
-      let h2 = p .to-radials in
-      let h3 = p .to-state in
-      simp length-append (omega arith)
+  state-at = let n = length-bytes 4 (s .cut) in simp length-append (omega arith)
 
-  changed-is : changed f s ≡ (p .a ++ (number ++ (p .b ++ (p .c ++ p .r)))) ++ (state ++ (p .d ++ p .rest))
+  changed-is : changed f s ≡ (front f s p number ++ (p .c ++ back f s p state)) ++ (p .rest ++ [])
   unfolding changed
   changed-is =
       let n = length-bytes 4 (s .cut) in
       let o = length-bytes 4 (lastState f s) in
-      let h = p .number in
-      let k = p .state in
-      let behind = p .b ++ (p .c ++ (p .r ++ (p .o ++ (p .d ++ p .rest)))) in
       let before = p .a ++ (number ++ (p .b ++ (p .c ++ p .r))) in
-      ap (λ (x : List ℕ). patch x (s .start) state)
-      (ap (λ (x : List ℕ). patch x 336 number) (p .file) ∙ patch-mid (p .a) (p .n) number behind 336 (p .to-number) (omega arith) ∙ regroup (p .a) number (p .b) (p .c) (p .r) (p .o ++ (p .d ++ p .rest)))
-      ∙ patch-mid before (p .o) state (p .d ++ p .rest) (s .start) before-long (omega arith)
-    where
-      regroup : (a n b c r x : List ℕ) → a ++ (n ++ (b ++ (c ++ (r ++ x)))) ≡ (a ++ (n ++ (b ++ (c ++ r)))) ++ x
-      regroup a n b c r x = simp append-assoc
-
-      before-long : length (p .a ++ (number ++ (p .b ++ (p .c ++ p .r)))) ≡ s .start
-      before-long =
-          let n = length-bytes 4 (s .cut) in
-          let h0 = p .to-number in
-          let h1 = p .to-dropped in
-          let h2 = p .to-radials in
-          let h3 = p .to-state in
-          simp length-append (omega arith)
+      let long : length before ≡ s .start = simp length-append (omega arith) in
+      let numbered : patch f 336 number ≡ before ++ (p .o ++ (p .d ++ p .rest)) =
+      ap (λ (x : List ℕ). patch x 336 number) (p .file) ∙ patch-mid (p .a) (p .n) number _ 336 (p .to-number) (omega arith) ∙ simp append-assoc in
+      ap (λ (x : List ℕ). patch x (s .start) state) numbered
+      ∙ patch-mid before (p .o) state (p .d ++ p .rest) (s .start) long (omega arith)
+      ∙ simp (append-assoc, append-nil)
 
   pub mended-is : mended f s ≡ ofPieces
   unfolding mended
   mended-is =
-      let front = p .a ++ (number ++ p .b) in
-      let back = p .r ++ (state ++ p .d) in
-      ap (λ (x : List ℕ). without (without x (s .end) (length f)) (behindCut (s .cut)) (behindCut (cutNumber f))) (changed-is ∙ regroup (p .a) number (p .b) (p .c) (p .r) state (p .d) (p .rest))
-      ∙ ap (λ (x : List ℕ). without x (behindCut (s .cut)) (behindCut (cutNumber f))) (without-mid (front ++ (p .c ++ back)) (p .rest) [] (s .end) (length f) kept-long all-long ∙ append-nil (front ++ (p .c ++ back)))
-      ∙ without-mid front (p .c) back (behindCut (s .cut)) (behindCut (cutNumber f)) front-long dropped-long
-      ∙ regroup-front (p .a) number (p .b) back
-    where
-      regroup : (a n b c r o d x : List ℕ) → (a ++ (n ++ (b ++ (c ++ r)))) ++ (o ++ (d ++ x)) ≡ ((a ++ (n ++ b)) ++ (c ++ (r ++ (o ++ d)))) ++ (x ++ [])
-      regroup a n b c r o d x = simp (append-assoc, append-nil)
-
-      regroup-front : (a n b x : List ℕ) → (a ++ (n ++ b)) ++ x ≡ a ++ (n ++ (b ++ x))
-      regroup-front a n b x = simp append-assoc
-
-      front-long : length (p .a ++ (number ++ p .b)) ≡ behindCut (s .cut)
-      front-long =
-          let n = length-bytes 4 (s .cut) in
-          let h0 = p .to-number in
-          let h1 = p .to-dropped in
-          simp length-append (omega arith)
-
-      dropped-long : length (p .a ++ (number ++ p .b)) + length (p .c) ≡ behindCut (cutNumber f)
-      dropped-long = let h = front-long in let k = p .to-radials in omega arith
-
-      kept-long : length ((p .a ++ (number ++ p .b)) ++ (p .c ++ (p .r ++ (state ++ p .d)))) ≡ s .end
-      kept-long =
-          let n = length-bytes 4 (s .cut) in
-          let o = length-bytes 4 (lastState f s) in
-          let h0 = p .to-number in
-          let h1 = p .to-dropped in
-          let h2 = p .to-radials in
-          let h3 = p .to-state in
-          let h4 = p .to-end in
-          simp length-append (omega arith)
-
-      all-long : length ((p .a ++ (number ++ p .b)) ++ (p .c ++ (p .r ++ (state ++ p .d)))) + length (p .rest) ≡ length f
-      all-long =
-          let h = kept-long in
-          let h0 = p .to-number in
-          let h1 = p .number in
-          let h2 = p .to-dropped in
-          let h3 = p .to-radials in
-          let h4 = p .to-state in
-          let h5 = p .state in
-          let h6 = p .to-end in
-          let l = ap length (p .file) in
-          let k : length (p .a ++ (p .n ++ (p .b ++ (p .c ++ (p .r ++ (p .o ++ (p .d ++ p .rest))))))) ≡ s .end + length (p .rest) = simp length-append (omega arith) in
-          omega arith
-
-  -- the two runs that are copied
-  front-run : take (behindCut (s .cut)) f ≡ p .a ++ (p .n ++ p .b)
-  front-run = ap (take (behindCut (s .cut))) (p .file ∙ regroup (p .a) (p .n) (p .b) _) ∙ take-at (p .a ++ (p .n ++ p .b)) _ (behindCut (s .cut)) front-long
-    where
-      regroup : (a n b x : List ℕ) → a ++ (n ++ (b ++ x)) ≡ (a ++ (n ++ b)) ++ x
-      regroup a n b x = simp append-assoc
-
-      front-long : length (p .a ++ (p .n ++ p .b)) ≡ behindCut (s .cut)
-      front-long =
-          let n = p .number in
-          let h0 = p .to-number in
-          let h1 = p .to-dropped in
-          simp length-append (omega arith)
-
-  back-run : take (s .end - behindCut (cutNumber f)) (drop (behindCut (cutNumber f)) f) ≡ p .r ++ (p .o ++ p .d)
-  back-run =
-      ap (λ (x : List ℕ). take (s .end - behindCut (cutNumber f)) (drop (behindCut (cutNumber f)) x)) (p .file ∙ regroup (p .a) (p .n) (p .b) (p .c) (p .r) (p .o) (p .d) (p .rest))
-      ∙ mid (p .a ++ (p .n ++ (p .b ++ p .c))) (p .r ++ (p .o ++ p .d)) (p .rest) (behindCut (cutNumber f)) (s .end - behindCut (cutNumber f)) before-long run-long
-    where
-      regroup : (a n b c r o d x : List ℕ) → a ++ (n ++ (b ++ (c ++ (r ++ (o ++ (d ++ x)))))) ≡ (a ++ (n ++ (b ++ c))) ++ ((r ++ (o ++ d)) ++ x)
-      regroup a n b c r o d x = simp append-assoc
-
-      before-long : length (p .a ++ (p .n ++ (p .b ++ p .c))) ≡ behindCut (cutNumber f)
-      before-long =
-          let n = p .number in
-          let h0 = p .to-number in
-          let h1 = p .to-dropped in
-          let h2 = p .to-radials in
-          simp length-append (omega arith)
-
-      run-long : length (p .r ++ (p .o ++ p .d)) ≡ s .end - behindCut (cutNumber f)
-      run-long =
-          let o = p .state in
-          let h3 = p .to-state in
-          let h4 = p .to-end in
-          simp length-append (omega arith)
-
-  -- what they and the two fields make of a room
-  pub laid : (room : List ℕ) → length ofPieces ≤ length room
-      → patch (patch (patch (patch room 0 (take (behindCut (s .cut)) f)) (behindCut (s .cut)) (take (s .end - behindCut (cutNumber f)) (drop (behindCut (cutNumber f)) f))) 336 number) (s .start - (behindCut (cutNumber f) - behindCut (s .cut))) state
-      ≡ patch room 0 ofPieces
-  unfolding patch
-  laid room fits =
       let n = length-bytes 4 (s .cut) in
       let o = length-bytes 4 (lastState f s) in
-      let hn = p .number in
-      let ho = p .state in
-      let runs = (p .a ++ (p .n ++ p .b)) ++ (p .r ++ (p .o ++ p .d)) in
-      let behind = drop (length ofPieces) room in
-      let copied : patch (patch room 0 (take (behindCut (s .cut)) f)) (behindCut (s .cut)) (take (s .end - behindCut (cutNumber f)) (drop (behindCut (cutNumber f)) f)) ≡ p .a ++ (p .n ++ (p .b ++ (p .r ++ (p .o ++ (p .d ++ behind))))) =
-      ap₂ (λ (x y : List ℕ). patch (patch room 0 x) (behindCut (s .cut)) y) front-run back-run
-      ∙ ap (λ (k : ℕ). patch (patch room 0 (p .a ++ (p .n ++ p .b))) k (p .r ++ (p .o ++ p .d))) (sym (zero-add (behindCut (s .cut))))
-      ∙ patch-join room 0 (behindCut (s .cut)) (p .a ++ (p .n ++ p .b)) (p .r ++ (p .o ++ p .d)) front-long runs-fit
-      ∙ ap (λ (k : ℕ). runs ++ drop k room) (zero-add (length runs) ∙ same-long)
-      ∙ regroup (p .a) (p .n) (p .b) (p .r) (p .o) (p .d) behind in
-      ap (λ (x : List ℕ). patch (patch x 336 number) (s .start - (behindCut (cutNumber f) - behindCut (s .cut))) state) copied
-      ∙ ap (λ (x : List ℕ). patch x (s .start - (behindCut (cutNumber f) - behindCut (s .cut))) state) (patch-mid (p .a) (p .n) number _ 336 (p .to-number) (omega arith) ∙ regroup-state (p .a) number (p .b) (p .r) _)
-      ∙ patch-mid (p .a ++ (number ++ (p .b ++ p .r))) (p .o) state (p .d ++ behind) (s .start - (behindCut (cutNumber f) - behindCut (s .cut))) state-at (omega arith)
-      ∙ regroup-end (p .a) number (p .b) (p .r) state (p .d) behind
-      ∙ ap (λ (k : ℕ). ofPieces ++ drop k room) (sym (zero-add (length ofPieces)))
-    where
-      regroup : (a n b r o d x : List ℕ) → ((a ++ (n ++ b)) ++ (r ++ (o ++ d))) ++ x ≡ a ++ (n ++ (b ++ (r ++ (o ++ (d ++ x)))))
-      regroup a n b r o d x = simp append-assoc
+      let frontal = front f s p number in
+      let rear = back f s p state in
+      let first = front-long f s p number n in
+      let kept = kept-long f s p number state n o in
+      let old = kept-long f s p (p .n) (p .o) (p .number) (p .state) in
+      let all = ap length (apart f s p) ∙ length-append (front f s p (p .n) ++ (p .c ++ back f s p (p .o))) (p .rest) in
+      ap (λ (x : List ℕ). without (without x (s .end) (length f)) (behindCut (s .cut)) (behindCut (cutNumber f))) changed-is
+      ∙ ap (λ (x : List ℕ). without x (behindCut (s .cut)) (behindCut (cutNumber f))) (without-mid (frontal ++ (p .c ++ rear)) (p .rest) [] (s .end) (length f) kept (omega arith) ∙ append-nil (frontal ++ (p .c ++ rear)))
+      ∙ without-mid frontal (p .c) rear (behindCut (s .cut)) (behindCut (cutNumber f)) first (omega arith)
+      ∙ simp append-assoc
 
-      regroup-end : (a n b r o d x : List ℕ) → (a ++ (n ++ (b ++ r))) ++ (o ++ (d ++ x)) ≡ (a ++ (n ++ (b ++ (r ++ (o ++ d))))) ++ x
-      regroup-end a n b r o d x = simp append-assoc
-
-      front-long : length (p .a ++ (p .n ++ p .b)) ≡ behindCut (s .cut)
-      front-long =
-          let n = p .number in
-          let h0 = p .to-number in
-          let h1 = p .to-dropped in
-          simp length-append (omega arith)
-
-      same-long : length ((p .a ++ (p .n ++ p .b)) ++ (p .r ++ (p .o ++ p .d))) ≡ length ofPieces
-      same-long =
-          let n = length-bytes 4 (s .cut) in
-          let o = length-bytes 4 (lastState f s) in
-          let hn = p .number in
-          let ho = p .state in
-          simp length-append (omega arith)
-
-      runs-fit : 0 + behindCut (s .cut) + length (p .r ++ (p .o ++ p .d)) ≤ length room
-      runs-fit =
-          let h = same-long in
-          let k = length-append (p .a ++ (p .n ++ p .b)) (p .r ++ (p .o ++ p .d)) in
-          let m = front-long in
-          omega arith
-
-  -- the same by four stores, each of which lies in the room
+  -- the two runs and the two fields, stored each, make it of a room that it fits in
   pub stores : (room r1 r2 r3 r4 : List ℕ) → length ofPieces ≤ length room
       → r1 ≡ stored (length (take (behindCut (s .cut)) f)) room 0 (take (behindCut (s .cut)) f)
       → r2 ≡ stored (length (take (s .end - behindCut (cutNumber f)) (drop (behindCut (cutNumber f)) f))) r1 (behindCut (s .cut)) (take (s .end - behindCut (cutNumber f)) (drop (behindCut (cutNumber f)) f))
@@ -313,23 +214,19 @@ module _ (f : List ℕ) (s : Stretch) (p : Pieces f s) where
       let y = take (s .end - behindCut (cutNumber f)) (drop (behindCut (cutNumber f)) f) in
       let n = length-bytes 4 (s .cut) in
       let o = length-bytes 4 (lastState f s) in
-      let h0 = p .to-number in
-      let h1 = p .to-dropped in
-      let h2 = p .to-radials in
-      let h3 = p .to-state in
-      let h4 = p .to-end in
-      let hn = p .number in
-      let ho = p .state in
       let size = long in
-      let lx : length x ≡ behindCut (s .cut) = ap length front-run ∙ simp length-append (omega arith) in
-      let ly : length y ≡ s .end - behindCut (cutNumber f) = ap length back-run ∙ simp length-append (omega arith) in
-      let p1 = e1 ∙ stored-in (length x) room 0 x (omega arith) in
-      let l1 = ap length p1 ∙ length-patch room 0 x (omega arith) in
-      let p2 = e2 ∙ stored-in (length y) r1 (behindCut (s .cut)) y (omega arith) in
-      let l2 = ap length p2 ∙ length-patch r1 (behindCut (s .cut)) y (omega arith) in
+      let lx : length x ≡ behindCut (s .cut) = ap length (front-run f s p) ∙ front-long f s p (p .n) (p .number) in
+      let ly : length y ≡ s .end - behindCut (cutNumber f) = ap length (back-run f s p) ∙ back-long f s p (p .o) (p .state) in
+      let one = laid-first 0 (behindCut (s .cut)) {x = x} (e1 ∙ ap (λ (k : ℕ). stored k room 0 x) lx) lx (omega arith) in
+      let two = laid-next (length y) y one (e2 ∙ ap (λ (k : ℕ). stored (length y) r1 k y) (sym (zero-add (behindCut (s .cut))))) refl (omega arith) in
+      let runs : x ++ y ≡ p .a ++ (p .n ++ (p .b ++ (p .r ++ (p .o ++ p .d)))) = ap₂ (λ (v w : List ℕ). v ++ w) (front-run f s p) (back-run f s p) ∙ simp append-assoc in
+      let same = two .same in
       let p3 = e3 ∙ stored-in 4 r2 336 number (omega arith) in
       let l3 = ap length p3 ∙ length-patch r2 336 number (omega arith) in
-      let p4 = e4 ∙ stored-in 4 r3 at state (omega arith) in
-      p4
-      ∙ ap (λ (r : List ℕ). patch r at state) (p3 ∙ ap (λ (r : List ℕ). patch r 336 number) (p2 ∙ ap (λ (r : List ℕ). patch r (behindCut (s .cut)) y) p1))
-      ∙ laid room fits
+      let numbered : r3 ≡ patch room 0 (p .a ++ (number ++ (p .b ++ (p .r ++ (p .o ++ p .d))))) =
+      p3 ∙ ap (λ (r : List ℕ). patch r 336 number) (two .is ∙ ap (patch room 0) runs) ∙ patch-laid room (p .a) (p .n) number _ 336 (p .to-number) (omega arith) in
+      e4
+      ∙ stored-in 4 r3 at state (omega arith)
+      ∙ ap (λ (r : List ℕ). patch r at state) (numbered ∙ ap (patch room 0) (regroup-state (p .a) number (p .b) (p .r) (p .o ++ p .d)))
+      ∙ patch-laid room (p .a ++ (number ++ (p .b ++ p .r))) (p .o) state (p .d) at state-at (omega arith)
+      ∙ ap (patch room 0) (sym (regroup-state (p .a) number (p .b) (p .r) (state ++ p .d)))

@@ -10,17 +10,17 @@ use lib.Dec.{eqb}
 use lib.ListN.{length, take, drop, length-append, take-append-drop}
 use lib.Seq.{length-take-le}
 use Rattle.le.specs.Le.{le, bytes, part, patch, Bytes}
-use Rattle.le.proofs.Laws.{length-bytes, le-bytes, bytes-le, length-part, le-own, part-past, part-drop, le-part, length-patch}
+use Rattle.le.proofs.Laws.{length-bytes, le-bytes, bytes-le, length-part, le-own, part-past, part-drop, length-patch}
 use Rattle.le.proofs.Here.{cut-here}
 use Rattle.rules.proofs.Numbers.{closing-small}
-use Rattle.task.specs.Task.{taskOf, taskAt}
-use Rattle.radial.specs.Radial.{radialOf, radialAt}
+use Rattle.radial.specs.Radial.{radialAt}
 use Rattle.walk.specs.Due.{cutPlace}
 use Rattle.reading.specs.declared.Stretch.{Stretch}
 use Rattle.volume.specs.InPlace.{taskBlock}
 use Rattle.mend.specs.declared.report.Field.the-variants.{Same, Changed}
 use Rattle.mend.specs.Closed.{gapOf, FieldSays, same, differs, byField, byReport, Reported}
 use Rattle.mend.specs.Mend.{cutNumber, lastState, changed, without, behindCut, mended, fieldOf, reportOf, Lies}
+use Rattle.mend.proofs.Fields.{number-in, state-in}
 use Rattle.mend.proofs.Pieces.{pieces, mended-is, regroup-state, state-at}
 
 -- ---- a part put where it stands, one behind a patch, and a number behind some bytes
@@ -74,22 +74,12 @@ by-field f place written old new h e = go (eqb old new) refl
     go true t = sym (patch-own 4 f place h) ∙ ap (patch f place) (sym e ∙ ap (bytes 4) (eqb-true old new t))
     go false t = refl
 
--- ---- the two fields, by their places
-
-number-in : (f : List ℕ) → le 4 f 336 ≡ cutNumber f
-unfolding taskOf taskAt
-number-in f = sym (le-part 4 256 f 160 176 (omega arith))
-
-pub state-in : (f : List ℕ) (at : ℕ) → le 4 f at ≡ radialAt f at .state
-unfolding radialOf radialAt
-state-in f at = sym (le-part 4 64 f at 0 (omega arith) ∙ ap (le 4 f) (add-zero at))
+-- ---- the two fields, as they are written
 
 module _ (f : List ℕ) (s : Stretch) (l : Lies f s) where
   number-written : le 4 (mended f s) 336 ≡ s .cut
   number-written =
       let p = pieces f s l in
-      let last = l .last in
-      let few = l .few in
       ap₂ (le 4) (mended-is f s p) (sym (p .to-number)) ∙ there (p .a) (p .b ++ (p .r ++ (bytes 4 (lastState f s) ++ p .d))) (s .cut) (omega arith)
 
   pub cuts-written : cutNumber (mended f s) ≡ s .cut
@@ -97,7 +87,7 @@ module _ (f : List ℕ) (s : Stretch) (l : Lies f s) where
 
   -- the dropped blocks, by the ends of the cuts' blocks
   gap-is : behindCut (cutNumber f) - behindCut (s .cut) ≡ gapOf f s
-  gap-is = let first = l .first in let last = l .last in omega arith
+  gap-is = omega arith
 
   pub state-written : le 4 (mended f s) (s .start - (behindCut (cutNumber f) - behindCut (s .cut))) ≡ lastState f s
   state-written =
@@ -115,11 +105,6 @@ module _ (f : List ℕ) (bs : Bytes f) (s : Stretch) (l : Lies f s) where
   changes : byField (reportOf f s .state) (byField (reportOf f s .«cut_number») f) ≡ changed f s
   unfolding changed
   changes =
-      let first = l .first in
-      let last = l .last in
-      let start = l .start in
-      let header = l .header in
-      let end = l .end in
       let number = bytes 4 (s .cut) in
       let n = length-bytes 4 (s .cut) in
       let numbered = patch f 336 number in
@@ -133,8 +118,6 @@ module _ (f : List ℕ) (bs : Bytes f) (s : Stretch) (l : Lies f s) where
   all-told : byReport (reportOf f s) f ≡ mended f s
   unfolding mended
   all-told =
-      let first = l .first in
-      let last = l .last in
       let from : cutPlace (s .cut + 1) ≡ behindCut (s .cut) = omega arith in
       let to : cutPlace (s .cut + 1 + (cutNumber f - s .cut)) ≡ behindCut (cutNumber f) = omega arith in
       ap (λ (x : List ℕ). without (without x (s .end) (length f)) (cutPlace (s .cut + 1)) (cutPlace (s .cut + 1 + (cutNumber f - s .cut)))) changes
@@ -142,9 +125,6 @@ module _ (f : List ℕ) (bs : Bytes f) (s : Stretch) (l : Lies f s) where
 
   pub reported : Reported f s (reportOf f s)
   reported =
-      let first = l .first in
-      let last = l .last in
-      let start = l .start in
       let cuts = cuts-written f s l in
       record {
         all = all-told;

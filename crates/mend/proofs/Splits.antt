@@ -1,44 +1,33 @@
--- A volume's structure taken apart at its last radial: lists, radials, layers and cuts, how long they are and where their radials lie.
--- Assumes nothing.
-use Prim.Native.Nat.{ℕ, suc, _+_, _*_, _≤_}
+-- A volume's structure taken apart at its last radial: lists, layers and cuts, with what their parts keep of the rules. Assumes nothing.
+use Prim.Native.Nat.{ℕ, suc, _+_, _≤_}
 use native.Mathlib.Omega.{arith}
 use mathlib.Core.List.{List, [], _∷_, _++_}
-use mathlib.Core.Path.{_≡_, refl, ap, subst}
-use lib.ListN.{length, length-append}
-use Rattle.le.specs.Le.{run}
+use mathlib.Core.Path.{_≡_, subst}
+use lib.ListN.{length}
 use Rattle.cut.specs.declared.Cut.{Cut}
-use Rattle.cut.specs.Cut.{cutBytes}
-use Rattle.cut.proofs.Trips as cut-trip
-use Rattle.generic.proofs.Trips as generic-trip
-use Rattle.site.proofs.Trips as site-trip
-use Rattle.task.proofs.Trips as task-trip
 use Rattle.task.specs.declared.Task.{Task}
-use Rattle.reading.specs.declared.Stretch.{Stretch}
-use Rattle.volume.specs.Volume.{VolumeRadial, Volume, Headed, CutsOk, RadialOk, Closes, LayerOk, LayersOk, bytesOfRadial, bytesOfVolume}
+use Rattle.volume.specs.Volume.{VolumeRadial, CutsOk, RadialOk, Closes, LayerOk, LayersOk}
 use Rattle.volume.specs.Accepted.{UnclosedOk, radialsIn}
-use Rattle.volume.specs.Meaning.{layerStretches, endOf, firstPlace}
 use Rattle.volume.proofs.Grow.{moved}
-use Rattle.volume.proofs.Layers.{endsAt}
 
 -- ---- the last of a list
 
-pub record Ended {A : Type 0} (l : List A) : Type 0 where
-  pub init : List A
-  pub last : A
-  pub is : l ≡ init ++ (last ∷ [])
+pub data Ended {A : Type 0} : List A → Type 0 where
+  with-last : (init : List A) (last : A) → Ended (init ++ (last ∷ []))
 
 pub ended : {A : Type 0} (l : List A) → 1 ≤ length l → Ended l
 ended [] h = absurd (omega arith)
-ended (x ∷ []) h = record { init = []; last = x; is = refl }
-ended {A} (x ∷ (y ∷ ys)) h =
-    let e = ended (y ∷ ys) (omega arith) in
-    record { init = x ∷ e .init; last = e .last; is = ap (λ (l : List A). x ∷ l) (e .is) }
+ended (x ∷ []) h = with-last [] x
+ended {A} (x ∷ (y ∷ ys)) h = more (ended (y ∷ ys) (omega arith))
+  where
+    more : {l : List A} → Ended l → Ended (x ∷ l)
+    more (with-last init last) = with-last (x ∷ init) last
 
 -- ---- the last radial of a layer
 
 module _ (t : Task) (c : Cut) (k : ℕ) where
   -- those before it do not close the cut, and it keeps its rules in its place
-  abbrev Before : ℕ → ℕ → List VolumeRadial → VolumeRadial → Type 0
+  abbrev pub Before : ℕ → ℕ → List VolumeRadial → VolumeRadial → Type 0
   Before before inCut l r = UnclosedOk t c k before inCut l × RadialOk t c k (before + length l) (inCut + length l) r
 
   further : (before inCut : ℕ) (m : VolumeRadial) (ms : List VolumeRadial) (r : VolumeRadial) → RadialOk t c k before inCut m → (Closes t k m → ⊥)
@@ -85,41 +74,3 @@ layers-last t (d ∷ ds) (m ∷ ms) c l k before ok =
 pub cuts-apart : (cs : List Cut) (c : Cut) (later : List Cut) → CutsOk (cs ++ (c ∷ later)) → CutsOk (cs ++ (c ∷ [])) × CutsOk later
 cuts-apart [] c later ok = ((ok .0, ok .1, tt), ok .2)
 cuts-apart (d ∷ ds) c later ok = let x = cuts-apart ds c later (ok .2) in ((ok .0, ok .1, x .0), x .1)
-
--- ---- how long, and where
-
-pub end-is : (at : ℕ) (l : List VolumeRadial) → endOf at l ≡ at + length (run bytesOfRadial l)
-unfolding run
-end-is at [] = omega arith
-end-is at (b ∷ bs) = let h = end-is (at + length (bytesOfRadial b)) bs in let k = length-append (bytesOfRadial b) (run bytesOfRadial bs) in omega arith
-
-pub ends-is : (at : ℕ) (ls : List (List VolumeRadial)) → endsAt at ls ≡ at + length (run (run bytesOfRadial) ls)
-unfolding run
-ends-is at [] = omega arith
-ends-is at (l ∷ ls) =
-    let h = ends-is (endOf at l) ls in
-    let g = end-is at l in
-    let k = length-append (run bytesOfRadial l) (run (run bytesOfRadial) ls) in
-    omega arith
-
-pub cuts-long : (cs : List Cut) → CutsOk cs → length (run cutBytes cs) ≡ 256 * length cs
-unfolding run
-cuts-long [] ok = refl
-cuts-long (c ∷ cs) ok =
-    let h = cuts-long cs (ok .2) in
-    let g = cut-trip.length-is c (ok .0) in
-    let k = length-append (cutBytes c) (run cutBytes cs) in
-    omega arith
-
-pub volume-long : (v : Volume) → Headed v → length (bytesOfVolume v) ≡ firstPlace v + length (run (run bytesOfRadial) (v .layers))
-volume-long v h =
-    let a = generic-trip.length-is (v .generic) (h .generic .0) in
-    let b = site-trip.length-is (v .site) (h .site .0) in
-    let c = task-trip.length-is (v .task) (h .task .0) in
-    let d = cuts-long (v .cuts) (h .cuts) in
-    simp length-append (omega arith)
-
-pub stretch-end : (k at : ℕ) (l : List VolumeRadial) (r : VolumeRadial)
-    → layerStretches k at (l ++ (r ∷ [])) ≡ layerStretches k at l ++ (record { start = endOf at l; end = endOf at l + length (bytesOfRadial r); cut = k } ∷ [])
-stretch-end k at [] r = refl
-stretch-end k at (b ∷ bs) r = ap (λ (x : List Stretch). record { start = at; end = at + length (bytesOfRadial b); cut = k } ∷ x) (stretch-end k (at + length (bytesOfRadial b)) bs r)

@@ -13,14 +13,23 @@ use Rattle.mend.specs.Answers.{withState}
 use Rattle.mend.specs.Kept.{kept}
 use Rattle.mend.specs.Made.{withCuts}
 
--- where the radial behind a volume's beginning lies
+-- where a radial of cut k lies that begins at a place
+abbrev pub stretchAt : ℕ → ℕ → VolumeRadial → Stretch
+stretchAt k at r = record { start = at; end = at + length (bytesOfRadial r); cut = k }
+
+-- ---- a radial behind a volume's beginning
+
+-- the number of its cut: as many cuts have radials
+abbrev pub cutsOf : Begun → ℕ
+cutsOf b = suc (length (b .closed))
+
 abbrev pub stretchBehind : Begun → VolumeRadial → Stretch
-stretchBehind b r =
-    record {
-      start = length (bytesOfVolume (volumeOf b));
-      end = length (bytesOfVolume (volumeOf b)) + length (bytesOfRadial r);
-      cut = suc (length (b .closed));
-    }
+stretchBehind b r = stretchAt (cutsOf b) (length (bytesOfVolume (volumeOf b))) r
+
+-- the beginning with it in its last layer
+abbrev pub whole : Begun → VolumeRadial → Volume
+whole b r =
+    record { generic = b .generic; site = b .site; task = b .task; cuts = b .early ++ (b .cut ∷ b .later); layers = b .closed ++ ((b .now ++ (r ∷ [])) ∷ []) }
 
 -- the radial r behind b, the last that is kept: it keeps its rules, whether it closes its cut or not, and another of its cut is before it
 pub record Last (b : Begun) (r : VolumeRadial) : Type 0 where
@@ -39,23 +48,16 @@ pub record View (f : List ℕ) : Type 0 where
 
 -- ---- the volume that it becomes
 
--- as many cuts as have radials
-abbrev pub cutsOf : Begun → ℕ
-cutsOf b = suc (length (b .closed))
-
+-- with no cut behind the last that has radials
 abbrev pub closedTask : Begun → Task
 closedTask b = withCuts (b .task) (cutsOf b)
+
+abbrev pub closedBegun : Begun → Begun
+closedBegun b = record { generic = b .generic; site = b .site; task = closedTask b; early = b .early; closed = b .closed; cut = b .cut; now = b .now; later = [] }
 
 -- the last radial with the state that closes the last cut
 abbrev pub closedRadial : Begun → VolumeRadial → VolumeRadial
 closedRadial b r = record { header = withState (r .header) (closing (b .task .«scan_type») (cutsOf b) (cutsOf b)); moments = r .moments }
 
 abbrev pub closedVolume : Begun → VolumeRadial → Volume
-closedVolume b r =
-    record {
-      generic = b .generic;
-      site = b .site;
-      task = closedTask b;
-      cuts = b .early ++ (b .cut ∷ []);
-      layers = b .closed ++ ((b .now ++ (closedRadial b r ∷ [])) ∷ []);
-    }
+closedVolume b r = whole (closedBegun b) (closedRadial b r)

@@ -21,7 +21,8 @@ use Rattle.mend.specs.Mend.{lastState, mended}
 use Rattle.mend.proofs.Bytes.{closed-bytes}
 use Rattle.mend.proofs.Closed.{is-volume}
 use Rattle.mend.proofs.Lying.{task-is, cuts-are}
-use Rattle.mend.proofs.Paired.{Pairs, Moved, paired, pairs-long, answers}
+use Rattle.mend.proofs.Nth.{Pairs, pairs-long}
+use Rattle.mend.proofs.Paired.{Moved, paired, answers}
 use Rattle.mend.proofs.View.{stretchBehind, View, cutsOf, closedVolume}
 
 module _ (f : List ℕ) (v : View f) where

@@ -15,10 +15,6 @@ use Rattle.mend.proofs.lay.lay.Tie as tie
 slice-aggregate-put : tie.Need-slice-aggregate-put
 slice-aggregate-put c =
     let l = c .before .before .before .before .before .before .pre .0 in
-    let last = l .last in
-    let start = l .start in
-    let header = l .header in
-    let end = l .end in
     sym (length-take-le _ _ (omega arith))
 
 returns : tie.Need-returns
