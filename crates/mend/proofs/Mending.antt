@@ -6,23 +6,50 @@ use mathlib.Core.Path.{_≡_, ap, subst}
 use lib.ListN.{length}
 use Rattle.le.specs.Le.{Bytes}
 use Rattle.reading.specs.declared.Found.the-variants.{Nowhere}
+use Rattle.reading.specs.declared.Stretch.{Stretch}
 use Rattle.reading.specs.Reading.{stretches}
-use Rattle.mend.specs.Closed.{Closed, Mending}
+use Rattle.mend.specs.Closed.{InPieces, Closed, Mending}
 use Rattle.mend.specs.Kept.{lastKept}
 use Rattle.mend.specs.Made.{MadeOf}
+use Rattle.mend.specs.Mend.{Lies}
 use Rattle.mend.proofs.Keeping.{kept-first}
 use Rattle.mend.proofs.Longest.{longest, nothing, two-made, which}
 use Rattle.mend.proofs.Lying.{lies, view-lies, viewed, last-seen}
 use Rattle.mend.proofs.Making.{made}
+use Rattle.mend.proofs.Pieces.{pieces, mended-is}
 use Rattle.mend.proofs.Reports.{cuts-written, reported}
 use Rattle.mend.proofs.Seen.{Seen, seen, some, none}
 use Rattle.mend.proofs.View.{stretchBehind, View}
 use Rattle.mend.proofs.Whole.{answer, complete, radials}
 
+in-pieces : (f : List ℕ) (s : Stretch) → Lies f s → InPieces f s
+in-pieces f s l =
+    let p = pieces f s l in
+    record {
+      front = p .a;
+      number = p .n;
+      cuts = p .b;
+      dropped = p .c;
+      radials = p .r;
+      state = p .o;
+      last = p .d;
+      behind = p .rest;
+      file = p .file;
+      volume = mended-is f s p;
+      number-at = p .to-number;
+      number-long = p .number;
+      dropped-long = omega arith;
+      radials-at = omega arith;
+      state-at = p .to-state;
+      state-long = p .state;
+      last-end = omega arith;
+    }
+
 closed : (f : List ℕ) → Bytes f → (v : View f) → Closed f (stretchBehind (v .begun) (v .final))
 closed f bs v =
     let first = kept-first 0 (stretches f) in
     record {
+      pieces = in-pieces f (stretchBehind (v .begun) (v .final)) (view-lies f v);
       complete = complete f v;
       radials = radials f v;
       cuts = cuts-written f (stretchBehind (v .begun) (v .final)) (view-lies f v);

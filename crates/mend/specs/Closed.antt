@@ -20,7 +20,7 @@ use Rattle.mend.specs.declared.report.Report.{Report}
 use Rattle.mend.specs.Answers.{Alike}
 use Rattle.mend.specs.Kept.{kept, lastOr, lastKept}
 use Rattle.mend.specs.Made.{MadeOf}
-use Rattle.mend.specs.Mend.{cutNumber, cutNumberPlace, lastState, mended, reportOf, without}
+use Rattle.mend.specs.Mend.{behindCut, cutNumber, cutNumberPlace, lastState, mended, reportOf, without}
 
 -- ---- which radials are kept
 
@@ -43,7 +43,32 @@ gapOf f s = cutSize * (cutNumber f - s .cut)
 abbrev pub stateOf : List ℕ → Stretch → ℕ → ℕ
 stateOf f s n = cond (eqb n (length (kept f))) (lastState f s) (radialOfFile f n .header .state)
 
+-- every byte of the file and of the volume: two fields have other contents in the volume, two stretches are left out, and all else is the
+-- same, in the same order
+pub record InPieces (f : List ℕ) (s : Stretch) : Type 0 where
+  -- up to the cut number, it, the rest of the task's block with the kept cuts' blocks, and the dropped cuts' blocks
+  pub front : List ℕ
+  pub number : List ℕ
+  pub cuts : List ℕ
+  pub dropped : List ℕ
+  -- the radials up to the last kept one, its state, the rest of it, and what follows it
+  pub radials : List ℕ
+  pub state : List ℕ
+  pub last : List ℕ
+  pub behind : List ℕ
+  pub file : f ≡ front ++ (number ++ (cuts ++ (dropped ++ (radials ++ (state ++ (last ++ behind))))))
+  pub volume : mended f s ≡ front ++ (bytes 4 (s .cut) ++ (cuts ++ (radials ++ (bytes 4 (lastState f s) ++ last))))
+  -- where they lie
+  pub number-at : length front ≡ cutNumberPlace
+  pub number-long : length number ≡ 4
+  pub dropped-long : length dropped ≡ gapOf f s
+  pub radials-at : length front + length number + length cuts + length dropped ≡ behindCut (cutNumber f)
+  pub state-at : behindCut (cutNumber f) + length radials ≡ s .start
+  pub state-long : length state ≡ 4
+  pub last-end : s .start + length state + length last ≡ s .end
+
 pub record Closed (f : List ℕ) (s : Stretch) : Type 0 where
+  pub pieces : InPieces f s
   -- it is complete, with the kept radials and no other
   pub complete : told (mended f s) ≡ 0 ∷ []
   pub radials : length (stretches (mended f s)) ≡ length (kept f)
