@@ -31,6 +31,13 @@ OLD, CODES, HEADERS = (f'crates/old/specs/{name}.antt' for name in ('Old', 'Code
 KEPT = 'crates/old/proofs/Kept.antt'
 OLD_RECORD, OLD_HEADERS = (f'crates/old/src/{name}.rt' for name in ('record', 'headers'))
 BROKEN, AT, AT_END = 'answer = Refused (c .number) ', 'at;', '(before .walk .at);'
+MENDED, LAY, REPORT = 'crates/mend/specs/Mend.antt', 'crates/mend/src/lay.rt', 'crates/mend/src/report.rt'
+KEEPING, PIECES, CLOSED, VIEW, MEND_BYTES, PAIRED, WHOLE, REPORTS, GROWING, KEPT_OF, LAST_STATE, LAID = (
+    f'crates/mend/proofs/{path}.antt' for path in ('Keeping', 'Pieces', 'Closed', 'View', 'Bytes', 'Paired', 'Whole', 'Reports', 'Growing',
+                                                   'keep/kept_of/Proof', 'lay/last_state/Proof', 'lay/lay/Proof'))
+NEWEST_IF = '\n    ∙ ap (λ (b : Bool). cond b (There s) (a .before)) '
+KEPT_IF = ' ∙ ap (λ (x : Bool). cond x (ss ++ (l ∷ [])) ss) '
+KEPT_CUT, OWN_CUTS = 'behindCut (s .cut)', 'behindCut (cutNumber f)'
 
 
 def swapped(path, one, other):
@@ -352,6 +359,76 @@ SLIPS = {
     'days_from_zero': [
         ('crates/old/specs/Clock.antt', '86400 * (day - 1) +', '86400 * day +'),
         ('crates/old/src/clock.rt', '86400 * (day as u64 - 1) +', '86400 * (day as u64) +'),
+    ],
+    # a last radial kept although it is alone in its cut (document 02, #107)
+    'lone_radial_kept': [
+        ('crates/mend/specs/Kept.antt', 'cond (eqb (s .cut) before) (s ∷ []) []', 's ∷ []'),
+        ('crates/mend/specs/Kept.antt', 'cond (eqb (s .cut) (cutOf before)) (There s) before', 'There s'),
+        ('crates/mend/src/keep.rt', 'return newest;\n    }\n    before', 'return newest;\n    }\n    newest'),
+        (KEPT_OF, f'{NEWEST_IF}(eq-eqb (s .cut) (cutOf (a .before)) (c .if1 .taken ∙ c .before .before .cut-of .ensures))', ''),
+        (KEPT_OF, f'{NEWEST_IF}(ne-eqb (s .cut) (cutOf (a .before)) (λ e. c .if1 .left (e ∙ sym (c .before .before .cut-of .ensures))))', ''),
+        (KEEPING, 'from-one before s [] = go (eqb (s .cut) (cutOf before))', 'from-one before s [] = refl'),
+        (KEEPING, '≡ cond (eqb (l .cut) (lastCut b ss)) (ss ++ (l ∷ [])) ss', '≡ ss ++ (l ∷ [])'),
+        (KEEPING, 'kept-join b ss l [] ∙ go (eqb (l .cut) (lastCut b ss))', 'kept-join b ss l []'),
+        (KEEPING, f'{KEPT_IF}(eq-eqb (l .cut) (lastCut b ss) e)', ''),
+        (KEEPING, f'{KEPT_IF}(ne-eqb (l .cut) (lastCut b ss) n)', ''),
+        (KEEPING, '≡ ss\nkept-without', '≡ ss ++ (l ∷ [])\nkept-without'),
+        (KEEPING, 'kept-first b (s ∷ []) = go (eqb (s .cut) b)', 'kept-first b (s ∷ []) = ([], refl)'),
+    ],
+    # the closing state by the file's own cut number (document 02, #107): one that had closed an earlier cut stays
+    'closed_as_in_the_file': [
+        (MENDED, 'closing (taskBlock f .«scan_type») (s .cut) (s .cut)', 'closing (taskBlock f .«scan_type») (cutNumber f) (s .cut)'),
+        (LAY, 'SCAN_TYPE), cut, cut)', 'SCAN_TYPE), cut_number(file), cut)'),
+        (LAST_STATE, 'c .before .before .before .args', 'c .before .before .before .before .args'),
+        (LAST_STATE, 'ap (λ (scan : ℕ). closing scan (s .cut) (s .cut)) (c .before .u32-at',
+         'ap₂ (λ (scan cuts : ℕ). closing scan cuts (s .cut)) (c .before .before .u32-at'),
+        (LAST_STATE, '164 (omega arith)))', '164 (omega arith))) (c .before .cut-number .ensures)'),
+        (LAST_STATE, '{sym, ap, _∙_}', '{sym, ap₂, _∙_}'),
+        (LAST_STATE, 'tie.spec (λ c κs. search needs)', 'tie.spec (λ c κs. search needs) (λ c κs. search needs)'),
+        (VIEW, '(cutsOf b) (cutsOf b)', '(b .task .«cut_number») (cutsOf b)'),
+        (CLOSED, 'closing-small scan k k', 'closing-small scan (b .task .«cut_number») k'),
+        (MEND_BYTES, 'closing (b .task .«scan_type») k k', 'closing (b .task .«scan_type») (b .task .«cut_number») k'),
+        (MEND_BYTES, 'closing (t .«scan_type») k k', 'closing (t .«scan_type») (t .«cut_number») k'),
+        (MEND_BYTES, 'closing (taskBlock f .«scan_type») k k', 'closing (taskBlock f .«scan_type») (taskBlock f .«cut_number») k'),
+        (MEND_BYTES, 'ap₂ (λ (x n : ℕ). closing x n k) (ap (λ (t : Task). t .«scan_type») (sym (task-is f v))) number',
+         'ap (λ (t : Task). closing (t .«scan_type») (t .«cut_number») k) (sym (task-is f v))'),
+        (PAIRED, '(cutsOf (v .begun)) (cutsOf (v .begun))', '(v .begun .task .«cut_number») (cutsOf (v .begun))'),
+        (PAIRED, '(cutsOf b) (cutsOf b)', '(b .task .«cut_number») (cutsOf b)'),
+        (WHOLE, 'closing (v .begun .task .«scan_type») k k', 'closing (v .begun .task .«scan_type») (v .begun .task .«cut_number») k'),
+        (WHOLE, 'closing (t .«scan_type») k k', 'closing (t .«scan_type») (t .«cut_number») k'),
+        (REPORTS, 'closing-small (taskBlock f .«scan_type») (s .cut)', 'closing-small (taskBlock f .«scan_type») (cutNumber f)'),
+        (GROWING, 'closing (t .«scan_type») (s .cut) (s .cut)', 'closing (t .«scan_type») (t .«cut_number») (s .cut)'),
+    ],
+    # the blocks of the dropped cuts left in (document 02, #107)
+    'dropped_cuts_left_in': [
+        (MENDED, KEPT_CUT, OWN_CUTS),
+        (LAY, '- behindCut (s .cut) ⌝', '- behindCut (cutNumber (now (file .entry))) ⌝'),
+        (LAY, 'behind_cut(s.cut)', 'behind_cut(cut_number(file))'),
+        (LAID, 'let l = c', 'let l = c .before'),
+        (LAID, 'let start = c', 'let start = c .before'),
+        (LAID, 'front .behind-cut .ensures', '(front .behind-cut .ensures ∙ ap (λ (n : ℕ). behindCut n) (front .before .cut-number .ensures))'),
+        (LAID, '(tie.spec\n    (λ c κs. search needs)', '(tie.spec\n    (λ c κs. search needs) (λ c κs. search needs)'),
+        (PIECES, KEPT_CUT, OWN_CUTS),
+        (REPORTS, KEPT_CUT, OWN_CUTS),
+        ('crates/mend/proofs/Making.antt', KEPT_CUT, OWN_CUTS),
+        ('crates/mend/proofs/Making.antt', '{behindCut, lastState', '{behindCut, cutNumber, lastState'),
+        ('crates/mend/proofs/Handed.antt', KEPT_CUT, OWN_CUTS),
+        (GROWING, 'to-dropped = p .to-dropped', 'to-dropped = p .to-dropped ∙ sym (ap (λ (t : Task). behindCut (t .«cut_number»)) task-same)'),
+        (GROWING, 'to-radials = p .to-radials', 'to-radials = ap (λ (t : Task). behindCut (t .«cut_number») + length (p .c)) task-same ∙ p .to-radials'),
+        (GROWING, KEPT_CUT, 'behindCut (t .«cut_number»)'),
+    ],
+    # what a field held told as what it holds, and the other way round (document 02, #107)
+    'old_for_new': [
+        (MENDED, 'old = old; new = new', 'old = new; new = old'),
+        (REPORT, '        old,\n        new,', '        old: new,\n        new: old,'),
+        (REPORTS, 'old = old; new = new', 'old = new; new = old'),
+        (REPORTS, 'old = le 4 f place; new = le 4 g written', 'old = le 4 g written; new = le 4 f place'),
+    ],
+    # the dropped stretch told from the start of the last radial that is kept (document 02, #107)
+    'dropped_from_the_last_kept': [
+        (MENDED, 'from = s .end', 'from = s .start'),
+        (REPORT, 'from: s.end', 'from: s.start'),
+        ('crates/mend/proofs/report/report_of/Proof.antt', 'from = s .end', 'from = s .start'),
     ],
 }
 
