@@ -387,7 +387,6 @@ SLIPS = {
         (LAST_STATE, 'tie.spec (λ c κs. search needs)', 'tie.spec (λ c κs. search needs) (λ c κs. search needs)'),
         (VIEW, '(cutsOf b) (cutsOf b)', '(b .task .«cut_number») (cutsOf b)'),
         (CLOSED, 'closing-small scan k k', 'closing-small scan (b .task .«cut_number») k'),
-        (MEND_BYTES, 'closing (b .task .«scan_type») k k', 'closing (b .task .«scan_type») (b .task .«cut_number») k'),
         (MEND_BYTES, 'closing (t .«scan_type») k k', 'closing (t .«scan_type») (t .«cut_number») k'),
         (MEND_BYTES, 'closing (taskBlock f .«scan_type») k k', 'closing (taskBlock f .«scan_type») (taskBlock f .«cut_number») k'),
         (MEND_BYTES, 'ap₂ (λ (x n : ℕ). closing x n k) (ap (λ (t : Task). t .«scan_type») (sym (task-is f v))) number',

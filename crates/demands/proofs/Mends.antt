@@ -1,5 +1,4 @@
 -- A broken volume closed, by citing the crate `mend`, and the tables by computing. Assumes nothing.
-use Prim.Native.Nat.{ℕ}
 use borrow.Author.Tests.{le-ltb}
 use native.Mathlib.Omega.{arith}
 use mathlib.Core.List.{map}

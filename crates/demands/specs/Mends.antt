@@ -48,9 +48,9 @@ Closes = (k : ℕ) → map (λ (scan : ℕ). closing scan k k) (0 ∷ 1 ∷ 2 �
 
 pub record Mends : Type 0 where
   -- of any file, complete, open or refused (`mend/Closed`): all whole radials are kept, but for a last one that is alone in its cut, and 54
-  -- says that no cut has two; what is written is the file's bytes with two fields changed and two stretches left out; it is complete, and
-  -- every answer on a kept radial is the file's, but for the last one's state; it is the longest complete volume that is made of the
-  -- file's leading whole radials; and the report names all that differs, and nothing else
+  -- says that no cut has two; what is written is the file's bytes with two fields changed and two stretches left out; it is complete; every
+  -- answer on a kept radial is the file's, but for the last one's state, and a tally of a kept cut counts the same; it is the longest
+  -- complete volume that is made of the file's leading whole radials; and the report names all that differs, and nothing else
   pub any : (f : List ℕ) → Bytes f → Mending f
   -- a complete file is handed back unchanged, whatever follows it
   pub complete : (A C : List ℕ) → Bytes (A ++ C) → told A ≡ 0 ∷ [] → HandedBack A C

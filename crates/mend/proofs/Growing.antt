@@ -14,8 +14,12 @@ use Rattle.task.specs.declared.Task.{Task}
 use Rattle.task.specs.Task.{taskOf, taskAt}
 use Rattle.reading.specs.declared.Found.the-variants.{There, Nowhere}
 use Rattle.reading.specs.declared.Stretch.{Stretch}
-use Rattle.reading.specs.Reading.{stretches, told}
+use Rattle.reading.specs.declared.step.Step.the-variants.{Refused}
+use Rattle.reading.specs.Reading.{ending, stop, stretches, told}
+use Rattle.reading.proofs.Exactly.{step-of}
 use Rattle.reading.proofs.Grown.{grows}
+use Rattle.reading.proofs.Growing.{keeps-refused, rests}
+use Rattle.reading.proofs.Run.{stays}
 use Rattle.volume.specs.InPlace.{taskBlock}
 use Rattle.mend.specs.Closed.{HandedBack}
 use Rattle.mend.specs.Growth.{SameMended, MendGrows}
@@ -87,6 +91,11 @@ same-mended A C bs e s k =
       from = refl;
     }
 
+-- a refused file has no further radial, however long it grows
+none-further : (A C : List ℕ) (n p : ℕ) → told A ≡ 2 ∷ n ∷ p ∷ [] → stretches (A ++ C) ≡ stretches A
+unfolding stays
+none-further A C n p e = rests A C (Refused n p) tt (keeps-refused A C (stop A) n p (step-of (ending A) n p e)) .radials
+
 pub mend-grows : (A C : List ℕ) → 0 < length C → Bytes (A ++ C) → (told A ≡ 0 ∷ [] → HandedBack A C) → MendGrows A C
 mend-grows A C some bs complete =
     let g = grows A C some in
@@ -96,5 +105,6 @@ mend-grows A C some bs complete =
       more = ap (keptAfter 0) (g .radials) ∙ k .1;
       same = same-mended A C (split-bytes A C bs .0);
       still = ap (λ (ss : List Stretch). lastOr Nowhere (keptAfter 0 ss));
+      refused = none-further A C;
       complete = complete;
     }

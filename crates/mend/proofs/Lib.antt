@@ -14,6 +14,7 @@ pub mod Bytes
 pub mod Reports
 pub mod Whole
 pub mod Making
+pub mod Tallied
 pub mod Longest
 pub mod Handed
 pub mod Growing

@@ -29,7 +29,7 @@ use Rattle.mend.proofs.Behind.{begun-cut}
 use Rattle.mend.proofs.Keeping.{lastCut, kept-first}
 use Rattle.mend.proofs.Lying.{last-seen}
 use Rattle.mend.proofs.Nth.{nth-within, nth-end, nth-among, some-last, last-of, of-join, of-one, of-most, of-nth}
-use Rattle.mend.proofs.Seen.{Seen, seen, some, none, Tail, volume-view}
+use Rattle.mend.proofs.Seen.{Seen, seen, some, none, Tail, tail-of, volume-view}
 use Rattle.mend.proofs.Seen as tail
 use Rattle.mend.proofs.View.{stretchBehind, View}
 
@@ -172,8 +172,4 @@ module _ (f g : List ℕ) (m : MadeOf f g) where
       dite (decLe (length (stretches g)) (length (kept f))) (λ k. k) (λ k. absurd (never s e z (omega arith)))
 
 pub longest : (f : List ℕ) → Bytes f → (g : List ℕ) → MadeOf f g → length (stretches g) ≤ length (kept f)
-longest f bs g m = by (seen f bs)
-  where
-    by : Seen f → length (stretches g) ≤ length (kept f)
-    by (some v t) = by-tail f g m t
-    by (none k t) = by-tail f g m t
+longest f bs g m = by-tail f g m (tail-of f bs)

@@ -8,19 +8,20 @@ use Rattle.le.specs.Le.{Bytes}
 use Rattle.reading.specs.declared.Found.the-variants.{Nowhere}
 use Rattle.reading.specs.declared.Stretch.{Stretch}
 use Rattle.reading.specs.Reading.{stretches}
-use Rattle.mend.specs.Closed.{InPieces, Closed, Mending}
+use Rattle.mend.specs.Closed.{gapOf, InPieces, Closed, Mending}
 use Rattle.mend.specs.Kept.{lastKept}
 use Rattle.mend.specs.Made.{MadeOf}
-use Rattle.mend.specs.Mend.{Lies}
+use Rattle.mend.specs.Mend.{mended, Lies}
 use Rattle.mend.proofs.Keeping.{kept-first}
 use Rattle.mend.proofs.Longest.{longest, nothing, two-made, which}
 use Rattle.mend.proofs.Lying.{lies, view-lies, viewed, last-seen}
 use Rattle.mend.proofs.Making.{made}
 use Rattle.mend.proofs.Pieces.{pieces, mended-is}
 use Rattle.mend.proofs.Reports.{cuts-written, reported}
-use Rattle.mend.proofs.Seen.{Seen, seen, some, none}
+use Rattle.mend.proofs.Seen.{Seen, seen, some, none, tail-of}
+use Rattle.mend.proofs.Tallied.{tally-same}
 use Rattle.mend.proofs.View.{stretchBehind, View}
-use Rattle.mend.proofs.Whole.{answer, complete, radials}
+use Rattle.mend.proofs.Whole.{answer, complete, pairs, radials}
 
 in-pieces : (f : List ℕ) (s : Stretch) → Lies f s → InPieces f s
 in-pieces f s l =
@@ -54,6 +55,7 @@ closed f bs v =
       radials = radials f v;
       cuts = cuts-written f (stretchBehind (v .begun) (v .final)) (view-lies f v);
       answers = answer f v (first .0) (first .1);
+      tallies = λ cut t w. tally-same f (mended f (stretchBehind (v .begun) (v .final))) (gapOf f (stretchBehind (v .begun) (v .final))) cut t w (tail-of f bs) (pairs f v);
       made = made f bs v (first .0) (first .1);
       longest = longest f bs;
     }

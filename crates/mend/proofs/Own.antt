@@ -55,7 +55,7 @@ module _ (b c : List ℕ) (long : length c ≡ length b) (same : drop 4 c ≡ dr
   word : (at : ℕ) → 4 ≤ at → at + 4 ≤ 64 → le 4 (part 64 c 0) at ≡ le 4 (part 64 b 0) at
   word at h r = sym (le-own 4 (part 64 c 0) at) ∙ ap (λ (l : List ℕ). le 4 l 0) (own 4 at h r) ∙ le-own 4 (part 64 b 0) at
 
-  header : radialAt c 0 ≡ withState (radialAt b 0) (radialAt c 0 .state)
+  pub header : radialAt c 0 ≡ withState (radialAt b 0) (radialAt c 0 .state)
   unfolding radialAt radialOf
   header =
       λ i. record {
@@ -100,7 +100,7 @@ module _ (b c : List ℕ) (long : length c ≡ length b) (same : drop 4 c ≡ dr
         ap (λ (x : ℕ). v (findIn c t (cond (leb (at + 32) x) (at ∷ l) []))) long
         ∙ either (λ x. v (findIn c t x)) (λ x. w (findIn b t x)) (leb (at + 32) (length b)) (told-on at h l m rest) none
 
-    told : v (findIn c t (momentsOf c)) ≡ w (findIn b t (momentsOf b))
+    pub told : v (findIn c t (momentsOf c)) ≡ w (findIn b t (momentsOf b))
     told =
         ap (λ (r : Radial). v (findIn c t (momentsFrom (r .«moment_number») c 64))) header ∙ told-from (radialAt b 0 .«moment_number») 64 (omega arith)
 

@@ -218,3 +218,10 @@ seen f bs = by (p .accepted) (p .rest) (p .hopeful .is) (p .bytes) (p .told .rad
     by (radial b x) rest ok e r = begun-seen f b (bytesOfRadial x ++ rest) (ok .0) (sym (append-assoc (bytesOfVolume (volumeOf b)) (bytesOfRadial x) rest) ∙ e) r (b .now) refl
     by (moment b x m) rest ok e r = begun-seen f b ((bytesOfRadial x ++ momentBytes m) ++ rest) (ok .0) (apart (bytesOfVolume (volumeOf b)) (bytesOfRadial x) (momentBytes m) rest ∙ e) r (b .now) refl
     by (volume v) rest ok e r = let x = volume-view f v rest ok e r in some (x .0 .view) (all (x .1))
+
+pub tail-of : (f : List ℕ) → Bytes f → Tail f
+tail-of f bs = by (seen f bs)
+  where
+    by : Seen f → Tail f
+    by (some v t) = t
+    by (none k t) = t

@@ -1,11 +1,9 @@
 -- What is told of a mended file is one-to-one, so its promise leaves no choice. Assumes nothing.
 use Prim.Native.Nat.{ℕ}
 use native.Mathlib.Omega.{arith}
-use mathlib.Core.List.{List, [], _∷_}
 use mathlib.Core.Path.{_≡_, refl, ap}
 use Rattle.mend.specs.declared.Mended.{Mended}
 use Rattle.mend.specs.declared.Mended.the-variants.{Written, Refused}
-use Rattle.mend.specs.declared.report.Change.{Change}
 use Rattle.mend.specs.declared.report.Field.{Field}
 use Rattle.mend.specs.declared.report.Field.the-variants.{Same, Changed}
 use Rattle.mend.specs.declared.report.Report.{Report}

@@ -13,7 +13,9 @@ use Rattle.reading.specs.declared.Found.the-variants.{There, Nowhere}
 use Rattle.reading.specs.declared.Stretch.{Stretch}
 use Rattle.reading.specs.Reading.{stretches, told}
 use Rattle.volume.specs.InPlace.{ofCut}
+use Rattle.wedge.specs.declared.Wedge.{Wedge}
 use Rattle.ask.specs.Answers.{radialOfFile}
+use Rattle.ask.specs.Tallies.{tallyOf}
 use Rattle.mend.specs.declared.report.Field.{Field}
 use Rattle.mend.specs.declared.report.Field.the-variants.{Same, Changed}
 use Rattle.mend.specs.declared.report.Report.{Report}
@@ -76,6 +78,8 @@ pub record Closed (f : List ℕ) (s : Stretch) : Type 0 where
   pub cuts : cutNumber (mended f s) ≡ s .cut
   -- every answer on a kept radial is the file's: its record but for the last one's state, its moments, their data, gates and rows
   pub answers : (n : ℕ) → 1 ≤ n → n ≤ length (kept f) → Alike f (mended f s) n (gapOf f s) (stateOf f s n)
+  -- and the tally of a cut of which a radial is kept counts what it counts in the file
+  pub tallies : (cut t : ℕ) (w : Wedge) → 1 ≤ ofCut cut (kept f) → tallyOf (mended f s) cut t w ≡ tallyOf f cut t w
   -- it is made of the file's leading whole radials, and nothing longer is
   pub made : MadeOf f (mended f s)
   pub longest : (g : List ℕ) → MadeOf f g → length (stretches g) ≤ length (kept f)

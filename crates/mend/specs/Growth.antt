@@ -26,5 +26,7 @@ pub record MendGrows (A C : List ℕ) : Type 0 where
   -- while no further radial is whole, the volume stays, and so does 54
   pub same : stretches (A ++ C) ≡ stretches A → (s : Stretch) → lastKept A ≡ There s → SameMended A (A ++ C) s
   pub still : stretches (A ++ C) ≡ stretches A → lastKept (A ++ C) ≡ lastKept A
+  -- and where A is refused, none is
+  pub refused : (n p : ℕ) → told A ≡ 2 ∷ n ∷ p ∷ [] → stretches (A ++ C) ≡ stretches A
   -- a complete A comes out of B as it is
   pub complete : told A ≡ 0 ∷ [] → HandedBack A C
