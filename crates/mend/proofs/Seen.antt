@@ -26,6 +26,7 @@ use Rattle.volume.specs.Meaning.{layerStretches, layersStretches, endOf, firstP
 use Rattle.volume.proofs.Grow.{moved, headed-as}
 use Rattle.volume.proofs.Layers.{endsAt, stretches-end}
 use Rattle.volume.proofs.Most.{volume-most}
+use Rattle.volume.proofs.Placed.{apart-end}
 use Rattle.volume.proofs.Sense.{sense}
 use Rattle.volume.proofs.Tells.{same-number}
 use Rattle.hope.specs.Meaning.{Parts}
@@ -196,9 +197,6 @@ volume-view f v rest is e r =
     let x = subst (λ (cs : List Cut). Shown f (v .generic) (v .site) (v .task) [] rest cs (v .layers)) (append-nil (v .cuts)) view (headed-as v _ _ refl (is .headed)) e (λ own last. ap (keptAfter 0) r ∙ own) in
     (x .0, r ∙ sym (x .1))
 
-apart : (a b c d : List ℕ) → a ++ ((b ++ c) ++ d) ≡ ((a ++ b) ++ c) ++ d
-apart a b c d = simp append-assoc
-
 pub seen : (f : List ℕ) → Bytes f → Seen f
 unfolding keptAfter
 seen f bs = by (p .accepted) (p .rest) (p .hopeful .is) (p .bytes) (p .told .radials)
@@ -216,7 +214,7 @@ seen f bs = by (p .accepted) (p .rest) (p .hopeful .is) (p .bytes) (p .told .rad
     by (task g s t cs) rest ok e r = early r
     by (radials b) rest ok e r = begun-seen f b rest ok e r (b .now) refl
     by (radial b x) rest ok e r = begun-seen f b (bytesOfRadial x ++ rest) (ok .0) (sym (append-assoc (bytesOfVolume (volumeOf b)) (bytesOfRadial x) rest) ∙ e) r (b .now) refl
-    by (moment b x m) rest ok e r = begun-seen f b ((bytesOfRadial x ++ momentBytes m) ++ rest) (ok .0) (apart (bytesOfVolume (volumeOf b)) (bytesOfRadial x) (momentBytes m) rest ∙ e) r (b .now) refl
+    by (moment b x m) rest ok e r = begun-seen f b ((bytesOfRadial x ++ momentBytes m) ++ rest) (ok .0) (apart-end (bytesOfVolume (volumeOf b)) (bytesOfRadial x) (momentBytes m) rest ∙ e) r (b .now) refl
     by (volume v) rest ok e r = let x = volume-view f v rest ok e r in some (x .0 .view) (all (x .1))
 
 pub tail-of : (f : List ℕ) → Bytes f → Tail f

@@ -32,7 +32,7 @@ use Rattle.volume.specs.Accepted.{Begun, Accepted, nothing, generic, sit
 
 -- ---- one more at the end
 
-pub cuts-end : (cs : List Cut) (c : Cut) → CutsOk cs → CutFits c → Hold (cutRules c) → CutsOk (cs ++ (c ∷ []))
+cuts-end : (cs : List Cut) (c : Cut) → CutsOk cs → CutFits c → Hold (cutRules c) → CutsOk (cs ++ (c ∷ []))
 cuts-end [] c ok fits rules = (fits, rules, tt)
 cuts-end (d ∷ ds) c ok fits rules = (ok .0, ok .1, cuts-end ds c (ok .2) fits rules)
 
@@ -45,7 +45,7 @@ module _ (t : Task) (c : Cut) (k : ℕ) where
   pub moved : (before inCut before' inCut' : ℕ) (b : VolumeRadial) → before ≡ before' → inCut ≡ inCut' → RadialOk t c k before inCut b → RadialOk t c k before' inCut' b
   moved before inCut before' inCut' b e d ok = subst (λ (i : ℕ). RadialOk t c k before' i b) d (subst (λ (i : ℕ). RadialOk t c k i inCut b) e ok)
 
-  pub unclosed-end : (l : List VolumeRadial) (before inCut : ℕ) (b : VolumeRadial) → UnclosedOk t c k before inCut l → RadialOk t c k (before + length l) (inCut + length l) b → (Closes t k b → ⊥) → UnclosedOk t c k before inCut (l ++ (b ∷ []))
+  unclosed-end : (l : List VolumeRadial) (before inCut : ℕ) (b : VolumeRadial) → UnclosedOk t c k before inCut l → RadialOk t c k (before + length l) (inCut + length l) b → (Closes t k b → ⊥) → UnclosedOk t c k before inCut (l ++ (b ∷ []))
   unclosed-end [] before inCut b ok r n = (moved (before + 0) (inCut + 0) before inCut b (omega arith) (omega arith) r, n, tt)
   unclosed-end (m ∷ ms) before inCut b ok r n =
       (ok .0, ok .1, unclosed-end ms (suc before) (suc inCut) b (ok .2) (moved (before + suc (length ms)) (inCut + suc (length ms)) (suc before + length ms) (suc inCut + length ms) b (omega arith) (omega arith) r) n)

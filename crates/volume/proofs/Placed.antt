@@ -45,7 +45,7 @@ use Rattle.volume.proofs.Tells.{same-number}
 apart : (a b c d : List ℕ) → ((a ++ b) ++ c) ++ d ≡ a ++ (b ++ (c ++ d))
 apart a b c d = simp append-assoc
 
-apart-end : (a b c d : List ℕ) → a ++ ((b ++ c) ++ d) ≡ ((a ++ b) ++ c) ++ d
+pub apart-end : (a b c d : List ℕ) → a ++ ((b ++ c) ++ d) ≡ ((a ++ b) ++ c) ++ d
 apart-end a b c d = simp append-assoc
 
 -- ---- a record that stands in the file is read there
