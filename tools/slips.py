@@ -107,6 +107,8 @@ SLIPS = {
         (CLOSING, 'returns c = rw (turned _ (c .match .keys1))', f'returns c = let a = c .before .args in rw ({EARLIER})'),
         (CLOSING, f'rw (not-turned _ (c .before .match .rest .1), {EARLIER})', f'rw ({LAST}, turned _ (c .match .keys1))'),
         (CLOSING, f'rw (not-turned _ (c .before .match .rest .1), {LAST})', f'rw ({LAST}, not-turned _ (c .match .rest .1))'),
+        (CLOSED, '(cond r 6 (cond a 2 4))', '(cond a 2 (cond r 6 4))'),
+        (CLOSED, 'go true a e = omega arith', 'go true true e = omega arith\n    go true false e = omega arith'),
     ],
     # an elevation from -3 on (number 16)
     'elevation_from_minus_three': [
