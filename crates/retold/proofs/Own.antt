@@ -60,7 +60,7 @@ moment-there pre h post fits = ap momentOf (part-there pre (momentBytes h) post 
 
 -- ---- what is said of a moment that was found
 
-said : {X : Type 0} → (Moment → List ℕ → X) → X → List ℕ → Found → X
+unfoldable pub said : {X : Type 0} → (Moment → List ℕ → X) → X → List ℕ → Found → X
 said say none b (At p) = say (momentAt b p) (dataAt b p)
 said say none b Nowhere = none
 
@@ -145,7 +145,7 @@ module _ {X : Type 0} (say : Moment → List ℕ → X) (none : X) where
       ∙ ap (cond (eqb (p .header .«data_type») t) (say (p .header) (p .bytes))) others-told
 
   -- those of a radial whose own bytes are those of its blocks
-  said-own : (r : Radial) (ps : List Pair) → RadialFits r → PairsFit ps → PairsLong ps → r .«moment_number» ≡ length ps
+  pub said-own : (r : Radial) (ps : List Pair) → RadialFits r → PairsFit ps → PairsLong ps → r .«moment_number» ≡ length ps
       → (l : List ℕ) → l ≡ run bytesOf (radialBlocks r ps) → (t : ℕ) → said say none l (findIn l t (momentsOf l)) ≡ among say none ps t
   unfolding run
   said-own r ps fits pairs long k l own t =

@@ -7,7 +7,7 @@ ghost use Rattle.rules.specs.Check.{breaks};
 ghost use Rattle.rules.specs.Masks.{bit as bitOf, withBit, typeClauses, binLengthClauses};
 
 // Whether a mask has the bit of type t.
-fn bit(mask: u64, t: u32) -> bool
+pub fn bit(mask: u64, t: u32) -> bool
     ensures { λ r. ⌜ r ≡ bitOf mask t ⌝ }
 {
     match t {

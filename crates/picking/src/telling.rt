@@ -1,0 +1,35 @@
+// What is printed of a pick in one line: the volume's length and what reading tells of it, or the refusal; and the checksum of all of the
+// room, so that no byte is stored unseen.
+use printing::bare_refused;
+use printing::first;
+use printing::newline;
+use printing::number;
+use printing::print_verdict;
+use printing::sum;
+use printing::word;
+use reading::Reading;
+
+fn print_sum(room: &[u8]) {
+    number(sum(room) as u64);
+    newline();
+}
+
+fn print_read(r: Reading) {
+    let verdict = r.verdict;
+    print_verdict(verdict);
+    number(r.radials as u64);
+}
+
+// The volume is the first bytes of the room.
+pub(crate) fn print_written(room: &[u8], size: usize) {
+    word(b"written");
+    number(size as u64);
+    print_read(reading::read(first(room, size)));
+    print_sum(room);
+}
+
+pub(crate) fn print_refused(room: &[u8], n: u32, place: usize) {
+    bare_refused(n);
+    number(place as u64);
+    print_sum(room);
+}
