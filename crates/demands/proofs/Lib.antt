@@ -5,6 +5,7 @@ pub mod Floats
 pub mod Hopes
 pub mod Imports
 pub mod Mends
+pub mod Picks
 pub mod One
 pub mod States
 pub mod Wedges

@@ -67,7 +67,10 @@ use Rattle.mend.specs.Kept.{lastKept}
 use Rattle.mend.specs.Mend as mend
 use Rattle.mend.proofs.Longest.{nothing}
 use Rattle.mend.proofs.Tellings.{told-mended-one}
-use Rattle.demands.specs.One.{Ending, is-complete, is-open, is-refused, Questions, Row, Tallied, Indexed, MendRefused, WriterRefuses, Unchanged, Determined, DemandOne}
+use Rattle.pick.specs.declared.Picked.the-variants as picked
+use Rattle.pick.specs.Pick as pick
+use Rattle.pick.proofs.Tellings.{told-picked-one}
+use Rattle.demands.specs.One.{Ending, is-complete, is-open, is-refused, Questions, Row, Tallied, Indexed, MendRefused, PickRefused, WriterRefuses, Unchanged, Determined, DemandOne}
 
 -- ---- every file has an ending
 
@@ -155,6 +158,16 @@ tallies f cut t w =
 indexes : (f : List ℕ) (room : ℕ) → Indexed f room
 unfolding answerOf
 indexes f room = record { index-36 = λ e. rw e; index-33 = λ e l. rw (e, lt-leb (length (indexOf f)) room l) }
+
+picks : (f : List ℕ) (wanted room : ℕ) → PickRefused f wanted room
+unfolding pick.answerBy
+picks f wanted room =
+    record {
+      pick-36 = λ c. rw c;
+      pick-60 = λ c s e. rw (c, e);
+      pick-33 = λ c e l. rw (c, e, lt-leb (length (pick.picked wanted f)) room l);
+      written = λ c e l. rw (c, e, le-leb (length (pick.picked wanted f)) room l);
+    }
 
 mends : (f : List ℕ) (room : ℕ) → Bytes f → MendRefused f room
 unfolding mend.answerBy
@@ -262,6 +275,18 @@ mended-kept f before after n r = go (lastKept f) refl
             absurd (let z : _≡_ {A = ℕ} 0 1 = cc in omega arith)
         by false q = rw e at (r .room) ∙ too-long (mend.mended f s) before q
 
+picked-kept : (f : List ℕ) (wanted : ℕ) (before after : List ℕ) (n p : ℕ) → pick.Picks f wanted before (picked.Refused n p) after → after ≡ before
+unfolding pick.answerBy pick.roomBy
+picked-kept f wanted before after n p r = go (complete f) (pick.emptyIn wanted f) (leb (length (pick.picked wanted f)) (length before)) refl refl refl
+  where
+    go : (c : Bool) (w : Found) (t : Bool) → complete f ≡ c → pick.emptyIn wanted f ≡ w → leb (length (pick.picked wanted f)) (length before) ≡ t → after ≡ before
+    go false w t d e q = rw d at (r .room)
+    go true (found.There s) t d e q = rw (d, e) at (r .room)
+    go true found.Nowhere true d e q =
+        let a : refused n p ≡ answered (length (pick.picked wanted f)) = rw (d, e, q) at (r .answer) in
+        absurd (let z : _≡_ {A = ℕ} 0 1 = cc in omega arith)
+    go true found.Nowhere false d e q = rw (d, e) at (r .room) ∙ too-long (pick.picked wanted f) before q
+
 tally-kept : (old : Tally) (n p : ℕ) → lentOf old (refused n p) .tally ≡ old
 unfolding lentOf
 tally-kept old n p = refl
@@ -278,6 +303,7 @@ unchanged =
           let r = refused-all g s t c f room n p e in
           (ap (λ (o : Outcome). o .walk) r, ap (λ (o : Outcome). o .room) r);
       mended = mended-kept;
+      picked = picked-kept;
       block = λ n room at bs h. stored-no n room at bs (lt-leb (at + n) (length room) h);
     }
 
@@ -317,6 +343,7 @@ determined =
       row-asked = row-told-one;
       index = λ f before a b x y p q. (told-once a b (p .answer ∙ sym (q .answer)), p .room ∙ sym (q .room));
       mended = λ f before a b x y p q. (told-mended-one a b (p .answer ∙ sym (q .answer)), p .room ∙ sym (q .room));
+      picked = λ f wanted before a b x y p q. (told-picked-one a b (p .answer ∙ sym (q .answer)), p .room ∙ sym (q .room));
       put = puts-same;
     }
 
@@ -329,6 +356,7 @@ demand-one =
       tallies = tallies;
       indexes = indexes;
       mends = mends;
+      picks = picks;
       writer = writer-refuses;
       unchanged = unchanged;
       determined = determined;

@@ -5,6 +5,7 @@ use Rattle.decoded.proofs.Grown.{checks-grow}
 use Rattle.citing.proofs.Grown.{cites-grow}
 use Rattle.mend.proofs.Growing.{mend-grows}
 use Rattle.mend.proofs.Handed.{handed-back}
+use Rattle.pick.proofs.Growing as pick
 use Rattle.demands.specs.Three.{DemandThree}
 
 pub demand-three : DemandThree
@@ -15,4 +16,5 @@ demand-three A C some =
       checks = checks-grow A C some;
       cites = cites-grow A C some;
       mends = λ bs. mend-grows A C some bs (handed-back A C bs);
+      picks = pick.grows A C;
     }

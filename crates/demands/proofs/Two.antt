@@ -35,6 +35,7 @@ use Rattle.demands.proofs.Floats.{floats}
 use Rattle.demands.proofs.Hopes.{hopes-hold}
 use Rattle.demands.proofs.Imports.{imports}
 use Rattle.demands.proofs.Mends.{mends}
+use Rattle.demands.proofs.Picks.{picks}
 use Rattle.demands.proofs.States.{state-rule}
 use Rattle.demands.proofs.Decoded.{decoded-rows}
 use Rattle.demands.proofs.Whys.{whys}
@@ -117,5 +118,6 @@ demand-two =
       writing = writing;
       imports = imports;
       mends = mends;
+      picks = picks;
       index = index-right;
     }

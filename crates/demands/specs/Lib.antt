@@ -6,6 +6,7 @@ pub mod Decoded
 pub mod Whys
 pub mod Imports
 pub mod Mends
+pub mod Picks
 pub mod One
 pub mod States
 pub mod Two

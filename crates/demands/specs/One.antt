@@ -63,6 +63,9 @@ use Rattle.mend.specs.declared.Mended.the-variants as mended
 use Rattle.mend.specs.Closed.{NoTwo}
 use Rattle.mend.specs.Kept.{lastKept}
 use Rattle.mend.specs.Mend as mend
+use Rattle.pick.specs.declared.Picked.{Picked}
+use Rattle.pick.specs.declared.Picked.the-variants as picked
+use Rattle.pick.specs.Pick as pick
 
 -- a file is complete, open with the missing bytes, or refused with number and place
 pub data Ending (f : List ℕ) : Type 0 where
@@ -118,6 +121,15 @@ pub record MendRefused (f : List ℕ) (room : ℕ) : Type 0 where
   pub written : (s : Stretch) → lastKept f ≡ There s → length (mend.mended f s) ≤ room
       → mend.answerOf f room ≡ answered (mend.said (length (mend.mended f s)) (mend.reportOf f s))
 
+-- picking is refused by 36 where the file is not complete, then by 60 at the first radial that would have no moment left, then by 33 where
+-- the room is shorter than the volume, and by nothing else; the places of 36 and 33 are 0. Which radial 60 names is in `Picks`
+pub record PickRefused (f : List ℕ) (wanted room : ℕ) : Type 0 where
+  pub pick-36 : complete f ≡ false → pick.answerOf wanted f room ≡ refused 36 0
+  pub pick-60 : complete f ≡ true → (s : Stretch) → pick.emptyIn wanted f ≡ There s → pick.answerOf wanted f room ≡ refused 60 (s .start)
+  pub pick-33 : complete f ≡ true → pick.emptyIn wanted f ≡ Nowhere → room < length (pick.picked wanted f) → pick.answerOf wanted f room ≡ refused 33 0
+  pub written : complete f ≡ true → pick.emptyIn wanted f ≡ Nowhere → length (pick.picked wanted f) ≤ room
+      → pick.answerOf wanted f room ≡ answered (length (pick.picked wanted f))
+
 -- the writer refuses in this order: 37 with place 0, where state and room do not agree; 25 after the end; 34 for another kind
 -- of block; what the reader says of the block; 35 for data of another length; 33 for a room that ends too early
 pub record WriterRefuses (b : Block) (w : Walk) (room : List ℕ) : Type 0 where
@@ -132,7 +144,7 @@ pub record WriterRefuses (b : Block) (w : Walk) (room : List ℕ) : Type 0 where
   pub short-room : agrees w room ≡ true → isEnd (w .due) ≡ false → sameKind (w .due) (kindOf b) ≡ true
       → (m : Walk) → saysOf b room w ≡ step.Took m → fitsOf b w ≡ true → length room < w .at + lengthOf b → put b w room .answer ≡ Refused 33 (w .at)
 
--- after a refusal the writer's state and room, the buffers of a row, the tally record and the room of an index, of a mended volume or of a
+-- after a refusal the writer's state and room, the buffers of a row, the tally record and the room of an index, of a mended or picked volume or of a
 -- record are what they were; a decoded row is lent only to be read. An import that is refused leaves the room as it was, and the state
 -- that it tells has begun no volume
 pub record Unchanged : Type 0 where
@@ -145,11 +157,12 @@ pub record Unchanged : Type 0 where
   pub imported : (g : Generic) (s : Site) (t : Task) (c f room : List ℕ) (n p : ℕ) → importOf g s t c f room .answer ≡ Refused n p
       → (importOf g s t c f room .walk ≡ atStart) × (importOf g s t c f room .room ≡ room)
   pub mended : (f before after : List ℕ) (n : ℕ) → mend.Mends f before (mended.Refused n) after → after ≡ before
+  pub picked : (f : List ℕ) (wanted : ℕ) (before after : List ℕ) (n p : ℕ) → pick.Picks f wanted before (picked.Refused n p) after → after ≡ before
   pub block : (n : ℕ) (room : List ℕ) (at : ℕ) (bs : List ℕ) → length room < at + n → stored n room at bs ≡ room
 
 -- two results that keep one promise are the same: those of reading, of a gate, of what is told of it and of its answer, of
--- a row with its buffers, of codes and of a file, of a decoded row, of a tally, of an index, of a mended volume and of a put or an import with its room; every
--- other promise is an equation
+-- a row with its buffers, of codes and of a file, of a decoded row, of a tally, of an index, of a mended and of a picked volume and of a put or an
+-- import with its room; every other promise is an equation
 pub record Determined : Type 0 where
   pub verdict : (a b : Verdict) → verdictTold a ≡ verdictTold b → a ≡ b
   pub reading : (f : List ℕ) (a b : Reading) → Tells f a → Tells f b → a ≡ b
@@ -164,6 +177,7 @@ pub record Determined : Type 0 where
       → (a ≡ b) × (k₁ ≡ k₂) × (h₁ ≡ h₂)
   pub index : (f before : List ℕ) (a b : Answer) (x y : List ℕ) → Writes f before a x → Writes f before b y → (a ≡ b) × (x ≡ y)
   pub mended : (f before : List ℕ) (a b : Mended) (x y : List ℕ) → mend.Mends f before a x → mend.Mends f before b y → (a ≡ b) × (x ≡ y)
+  pub picked : (f : List ℕ) (wanted : ℕ) (before : List ℕ) (a b : Picked) (x y : List ℕ) → pick.Picks f wanted before a x → pick.Picks f wanted before b y → (a ≡ b) × (x ≡ y)
   pub put : (o : Outcome) (p q : Put) (held other : List ℕ) → Puts o p held → Puts o q other → (p ≡ q) × (held ≡ other)
 
 pub record DemandOne : Type 0 where
@@ -173,6 +187,7 @@ pub record DemandOne : Type 0 where
   pub tallies : (f : List ℕ) (cut t : ℕ) (w : Wedge) → Tallied f cut t w
   pub indexes : (f : List ℕ) (room : ℕ) → Indexed f room
   pub mends : (f : List ℕ) (room : ℕ) → Bytes f → MendRefused f room
+  pub picks : (f : List ℕ) (wanted room : ℕ) → PickRefused f wanted room
   pub writer : (b : Block) (w : Walk) (room : List ℕ) → WriterRefuses b w room
   pub unchanged : Unchanged
   pub determined : Determined

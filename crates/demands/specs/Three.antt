@@ -9,6 +9,7 @@ use Rattle.ask.specs.Growth.{AnswersGrow}
 use Rattle.decoded.specs.Growth.{ChecksGrow}
 use Rattle.citing.specs.Growth.{CitesGrow}
 use Rattle.mend.specs.Growth.{MendGrows}
+use Rattle.pick.specs.Growth.{PickGrows}
 
 pub record Growth (A C : List ℕ) : Type 0 where
   -- radials and verdicts: the whole radials of A begin those of B, with the same bytes; refused stays refused, complete
@@ -23,6 +24,9 @@ pub record Growth (A C : List ℕ) : Type 0 where
   pub cites : CitesGrow A C
   -- what is kept of A in mending is the first of what is kept of B; while no further radial is whole, the volume stays
   pub mends : Bytes (A ++ C) → MendGrows A C
+  -- the radials of A are picked from B as from A, and the first of them that would have no moment left is still the first; what follows a
+  -- complete or a refused A is refused by 36
+  pub picks : PickGrows A C
 
 abbrev pub DemandThree : Type 0
 DemandThree = (A C : List ℕ) → 0 < length C → Growth A C

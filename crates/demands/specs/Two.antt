@@ -56,6 +56,7 @@ use Rattle.demands.specs.Floats.{Floats}
 use Rattle.demands.specs.Hopes.{Hopes}
 use Rattle.demands.specs.Imports.{Imports}
 use Rattle.demands.specs.Mends.{Mends}
+use Rattle.demands.specs.Picks.{Picks}
 use Rattle.demands.specs.States.{StateRule}
 use Rattle.demands.specs.Wedges.{Wedges}
 
@@ -180,4 +181,6 @@ pub record DemandTwo : Type 0 where
   pub imports : Imports
   -- what a broken volume is closed to, and what the report says of it (`Mends`)
   pub mends : Mends
+  -- what a volume with the wanted moments only is, and what is answered of it (`Picks`)
+  pub picks : Picks
   pub index : IndexRight

@@ -1,9 +1,9 @@
 -- The bits that two masks share, and the bits of a mask with one set. Assumes nothing.
 use Prim.Native.Nat.{ℕ, _+_, _-_, _*_, _/_, _%_, _^_, _<_, min}
-use native.Mathlib.Nat.{mod-eq-of-lt}
+use native.Mathlib.Nat.{div-le-self, mod-eq-of-lt}
 use native.Mathlib.Omega.{arith}
 use mathlib.Core.Path.{_≡_, refl, sym, ap, ap₂, _∙_}
-use mathlib.Core.Bool.{Bool, true, false, _&&_, _||_, or-false}
+use mathlib.Core.Bool.{Bool, true, false, _&&_, _||_, and-false, or-false}
 use lib.Arith.{bin-ind}
 use lib.Bits.{bitAnd, bitOr, and-step, and-mask}
 use lib.Dec.{eqb}
@@ -22,6 +22,14 @@ bit-and a b t = go (within 1 64 t)
     go : (w : Bool) → (w && eqb (bitAnd a b / 2 ^ (t - 1) % 2) 1) ≡ ((w && eqb (a / 2 ^ (t - 1) % 2) 1) && (w && eqb (b / 2 ^ (t - 1) % 2) 1))
     go true = digit-and a b (t - 1)
     go false = refl
+
+-- the mask 0 has no bit
+pub bit-none : (t : ℕ) → bit 0 t ≡ false
+unfolding bit
+bit-none t =
+    let h = div-le-self 0 (2 ^ (t - 1)) in
+    let z : 0 / 2 ^ (t - 1) ≡ 0 = omega arith in
+    rw z (and-false (within 1 64 t))
 
 -- the lowest bit of what two numbers share, and the others
 low : (a b : ℕ) → bitAnd a b % 2 ≡ min (a % 2) (b % 2)

@@ -20,3 +20,4 @@ pub mod Tellings
 pub mod Again
 pub mod Growing
 pub mod Plans
+pub mod First

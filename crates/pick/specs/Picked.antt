@@ -1,5 +1,5 @@
 -- What picking makes of a complete volume (document 02, #111): a complete volume, with every answer on a wanted type and none on another.
-use Prim.Native.Nat.{ℕ, _-_, _^_, _≤_}
+use Prim.Native.Nat.{ℕ, _-_, _^_, _≤_, _<_}
 use mathlib.Core.Bool.{true, false, cond}
 use mathlib.Core.List.{List}
 use mathlib.Core.Logic.{_↔_, _⊎_}
@@ -30,6 +30,23 @@ use Rattle.pick.specs.Pick.{Complete, emptyIn, picked}
 pub record Taken (wanted : ℕ) (f : List ℕ) : Type 0 where
   pub complete : Complete f
   pub left : emptyIn wanted f ≡ Nowhere
+
+-- ---- which radials would have no moment left, by the questions that are asked of f
+
+-- radial n of f has a moment of a wanted type
+abbrev pub SomeWanted : ℕ → List ℕ → ℕ → Type 0
+SomeWanted wanted f n = (t : ℕ) × ((bit wanted t ≡ true) × (momentTold f (whereIs f n t) .number ≡ 0))
+
+-- s is the first that has none: of each wanted type 31 is told of it, and every radial before it has one
+pub record First (wanted : ℕ) (f : List ℕ) (s : Stretch) : Type 0 where
+  pub number : ℕ
+  pub is : nth (stretches f) number ≡ There s
+  pub none : (t : ℕ) → bit wanted t ≡ true → momentTold f (whereIs f number t) .number ≡ 31
+  pub before : (k : ℕ) → 1 ≤ k → k < number → SomeWanted wanted f k
+
+pub record ByQuestions (wanted : ℕ) (f : List ℕ) : Type 0 where
+  pub first : (s : Stretch) → emptyIn wanted f ≡ There s → First wanted f s
+  pub each : emptyIn wanted f ≡ Nowhere → (n : ℕ) → radialOfFile f n .number ≡ 0 → SomeWanted wanted f n
 
 -- ---- one radial; g is the picked volume
 
