@@ -4,8 +4,9 @@
     python3 tools/readme.py
 
 Each indented block of README.md has to stand whole in a source, or line for line, in order, in a program's
-stored output, among the verdicts that the reference reader gives of the samples, or in the listing of the old
-shelf as the reference imports it; but for the block of commands, which starts with `./knot`.
+stored output, among the verdicts that the reference reader gives of the samples, in the listing of the old
+shelf as the reference imports it, or in what it tells of a sample that it picks from; but for the block of
+commands, which starts with `./knot`.
 """
 import glob
 import re
@@ -13,6 +14,7 @@ import sys
 
 sys.dont_write_bytecode = True
 import importing
+import picking
 import reference as ref
 
 
@@ -43,6 +45,13 @@ def shelf():
     return ref.listing(told[1]).splitlines()
 
 
+def picked(t):
+    """The listing of the sample with its moments of type t only, or why there is none."""
+    file = sample('rhi2.vol')
+    told = picking.pick(file, 1 << t - 1, len(file))
+    return ref.listing(told).splitlines() if isinstance(told, bytes) else picking.refusal_words(told)
+
+
 def main():
     def read(path, errors='strict'):
         with open(path, encoding='utf-8', errors=errors) as file:
@@ -52,6 +61,7 @@ def main():
     outputs = [read(path, 'replace').splitlines() for path in glob.glob('crates/*/stdout')]     # one has a volume's bytes
     outputs.append([verdict(name) for name in ('short', 'cloud', 'layers')])
     outputs.append(shelf())
+    outputs += [picked(2), picked(4)]
     strange = [block for block in blocks(read('README.md')) if not block.startswith('./knot')
                and not any(block in source for source in sources)
                and not any(in_order(block, lines) for lines in outputs)]

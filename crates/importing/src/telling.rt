@@ -5,16 +5,11 @@ use printing::bare_refused;
 use printing::first;
 use printing::newline;
 use printing::number;
+use printing::print_sum;
 use printing::print_verdict;
-use printing::sum;
 use printing::word;
 use reading::Reading;
 use reading::Verdict;
-
-fn print_sum(room: &[u8]) {
-    number(sum(room) as u64);
-    newline();
-}
 
 // Without the bytes that are missing. What an import wrote is never refused.
 fn print_name(v: Verdict) {

@@ -17,7 +17,7 @@ use Rattle.mend.specs.Mend.{cutNumber, lastState, changed, without, behi
 -- ---- lists
 
 -- a field in the middle, changed
-patch-mid : (a x y b : List ℕ) (at : ℕ) → length a ≡ at → length y ≡ length x → patch (a ++ (x ++ b)) at y ≡ a ++ (y ++ b)
+pub patch-mid : (a x y b : List ℕ) (at : ℕ) → length a ≡ at → length y ≡ length x → patch (a ++ (x ++ b)) at y ≡ a ++ (y ++ b)
 unfolding patch
 patch-mid a x y b at l e =
     let n : length (a ++ x) ≡ at + length y = let k = length-append a x in omega arith in

@@ -4,17 +4,10 @@ use mend::report::Field;
 use mend::report::Report;
 use printing::bare_refused;
 use printing::first;
-use printing::newline;
 use printing::number;
-use printing::print_verdict;
-use printing::sum;
+use printing::print_read;
+use printing::print_sum;
 use printing::word;
-use reading::Reading;
-
-fn print_sum(room: &[u8]) {
-    number(sum(room) as u64);
-    newline();
-}
 
 fn print_pair(name: &[u8], a: usize, b: usize) {
     word(name);
@@ -41,12 +34,6 @@ fn print_report(r: Report) {
     print_field(b" state", state);
     print_pair(b" cuts", r.first_dropped as usize, r.dropped_cuts as usize);
     print_pair(b" stretch", r.from, r.to);
-}
-
-fn print_read(r: Reading) {
-    let verdict = r.verdict;
-    print_verdict(verdict);
-    number(r.radials as u64);
 }
 
 // The volume is the first bytes of the room.

@@ -4,8 +4,8 @@ use mend::report::Field;
 use mend::report::Report;
 use printing::bare_refused;
 use printing::newline;
-use printing::number;
 use printing::part;
+use printing::print_volume;
 use printing::word;
 
 fn say_contents(before: &[u8], contents: u32, place: usize) {
@@ -70,10 +70,7 @@ fn say_report(r: Report) {
 
 pub(crate) fn say_written(volume: &[u8], report: Report) {
     say_report(report);
-    word(b"written");
-    number(volume.len() as u64);
-    newline();
-    word(volume);
+    print_volume(volume);
 }
 
 fn say_refusal(n: u32) {

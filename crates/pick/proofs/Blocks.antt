@@ -26,18 +26,11 @@ use Rattle.radial.specs.Radial.{radialAt, radialBytes}
 use Rattle.radial.proofs.Trips as radial-trip
 use Rattle.volume.specs.Volume.{VolumeMoment, VolumeRadial, MomentsOk, bytesOfMoment, bytesOfRadial, tiled}
 use Rattle.retold.proofs.Own.{header-there}
+use Rattle.mend.proofs.Pieces.{patch-mid}
 use Rattle.pick.specs.Keep.{wantedIn, wantedOf, momentRun, keptBytes, pickedRadial}
 use Rattle.pick.specs.Only.{onlyCut, onlyMoments, onlyRadial}
 use Rattle.pick.specs.Pick.{empties, pickedCut}
 use Rattle.pick.proofs.Owned.{Ok}
-
--- a field in the middle, changed
-patch-mid : (a x y b : List ℕ) (at : ℕ) → length a ≡ at → length y ≡ length x → patch (a ++ (x ++ b)) at y ≡ a ++ (y ++ b)
-unfolding patch
-patch-mid a x y b at l e =
-    let n : length (a ++ x) ≡ at + length y = let k = length-append a x in omega arith in
-    ap₂ (λ (p q : List ℕ). p ++ y ++ q) (take-at a (x ++ b) at l) (ap (drop (at + length y)) (sym (append-assoc a x b)) ∙ drop-at (a ++ x) b (at + length y) n)
-    ∙ append-assoc a y b
 
 -- ---- a cut
 

@@ -1,7 +1,7 @@
 -- The wanted moments of a radial, put one behind the other: what is in the room, and what is still to come. Assumes nothing.
 use Prim.Native.Nat.{ℕ, _+_, _-_, _≤_}
 use native.Mathlib.Omega.{arith}
-use mathlib.Core.List.{List, [], _++_}
+use mathlib.Core.List.{List, []}
 use mathlib.Core.Path.{_≡_, refl, ap, subst, _∙_}
 use lib.ListN.{length}
 use Rattle.le.specs.Le.{patch, run, stored}

@@ -19,6 +19,7 @@ use Rattle.moments.specs.declared.Found.{Found}
 use Rattle.moments.specs.declared.Found.the-variants.{At, Nowhere}
 use Rattle.moments.specs.Moments.{momentsOf, findIn, dataAt}
 use Rattle.volume.specs.Volume.{VolumeMoment, VolumeRadial, MomentsOk, bytesOfMoment, bytesOfRadial}
+use Rattle.writer.specs.Block.{bytesOf}
 use Rattle.retold.specs.Retold.{Pair, PairsFit, momentBlocks, among}
 use Rattle.retold.proofs.Own.{said, said-own, header-there}
 use Rattle.retold.proofs.Whole.{PairsLong}
@@ -70,16 +71,12 @@ pairs-long : (c : Cut) (r : Radial) (before ps : List VolumeMoment) → MomentsO
 pairs-long c r before [] ok = tt
 pairs-long c r before (p ∷ ps) ok = (ok .2, pairs-long c r (p ∷ before) ps (ok .3))
 
--- their bytes are those of any blocks that are the header and the data of each, one after the other
-pairs-bytes : {B : Type 0} (enc : B → List ℕ) (blocks : List Pair → List B) → run enc (blocks []) ≡ []
-    → ((p : Pair) (ps : List Pair) → run enc (blocks (p ∷ ps)) ≡ momentBytes (p .header) ++ (p .bytes ++ run enc (blocks ps)))
-    → (ps : List VolumeMoment) → run bytesOfMoment ps ≡ run enc (blocks (pairs ps))
-unfolding run
-pairs-bytes enc blocks no-more each [] = sym no-more
-pairs-bytes enc blocks no-more each (p ∷ ps) =
-    ap (λ (l : List ℕ). bytesOfMoment p ++ l) (pairs-bytes enc blocks no-more each ps)
-    ∙ append-assoc (momentBytes (p .header)) (p .bytes) (run enc (blocks (pairs ps)))
-    ∙ sym (each (pair p) (pairs ps))
+-- their bytes are those of their blocks
+pairs-bytes : (ps : List VolumeMoment) → run bytesOfMoment ps ≡ run bytesOf (momentBlocks (pairs ps))
+unfolding run momentBlocks
+pairs-bytes [] = refl
+pairs-bytes (p ∷ ps) =
+    ap (λ (l : List ℕ). bytesOfMoment p ++ l) (pairs-bytes ps) ∙ append-assoc (momentBytes (p .header)) (p .bytes) (run bytesOf (momentBlocks (pairs ps)))
 
 -- the first of them with type t
 abbrev first : List VolumeMoment → ℕ → Seen
@@ -100,7 +97,7 @@ module _ (b : VolumeRadial) (is : Ok b) (l : List ℕ) (own : l ≡ bytesOfRadia
       let long = pairs-long (is .cut) (b .header) [] ms ok in
       let count = sym (is .ok .count) ∙ sym (length-map ms pair) in
       said-own moment nothing (b .header) (pairs ms) (is .ok .fits) fits long count l
-      (own ∙ ap (λ (x : List ℕ). radialBytes (b .header) ++ x) (pairs-bytes _ momentBlocks refl (λ p ps. refl) ms)) t
+      (own ∙ ap (λ (x : List ℕ). radialBytes (b .header) ++ x) (pairs-bytes ms)) t
 
 -- ---- those of the wanted types
 

@@ -1,13 +1,13 @@
 -- What one pass over the blocks finds: how many radials there are, how long they become, and the first that would have no moment left.
 -- Assumes nothing.
-use Prim.Native.Nat.{ℕ, suc, _+_, _-_, _≤_}
+use Prim.Native.Nat.{ℕ, _+_, _-_, _≤_}
 use native.Mathlib.Nat.{zero-add}
 use native.Mathlib.Omega.{arith}
 use mathlib.Core.Bool.{Bool, true, false, cond, _&&_}
 use mathlib.Core.List.{List, [], _∷_}
-use mathlib.Core.Path.{_≡_, refl, sym, ap, subst, _∙_}
+use mathlib.Core.Path.{_≡_, refl, sym, ap, _∙_}
 use borrow.Author.Tests.{le-leb, leb-true}
-use lib.Dec.{eqb, leb}
+use lib.Dec.{leb}
 use lib.ListN.{length, length-append}
 use Rattle.le.specs.Le.{run}
 use Rattle.le.proofs.Tests.{both}
@@ -23,10 +23,9 @@ use Rattle.reading.proofs.Run.{ended, is-done}
 use Rattle.index.specs.Answer.{complete}
 use Rattle.index.proofs.Same.{is-same, not-same, same-is}
 use Rattle.ask.proofs.Growing.{AllPlaced, all-placed}
-use Rattle.pick.specs.declared.keep.Kept.{Kept}
-use Rattle.pick.specs.Keep.{keptBytes, keptOf, wantedOf}
+use Rattle.pick.specs.Keep.{keptBytes}
 use Rattle.pick.specs.Pick.{Complete, empties, emptyIn, firstEmpty, orElse, pickedRadials, radialsAt}
-use Rattle.pick.proofs.Standing.{only, row, row-short, Sized, sized}
+use Rattle.pick.proofs.Standing.{only, row, row-short, sized}
 
 -- ---- whether a file is complete
 

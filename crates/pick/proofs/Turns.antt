@@ -16,7 +16,7 @@ use Rattle.ask.proofs.Growing.{AllPlaced, all-placed}
 use Rattle.pick.specs.Keep.{keptBytes, pickedRadial}
 use Rattle.pick.specs.Pick.{pickedCut, cutBlocks, picked, pickedRadials, radialsAt}
 use Rattle.pick.proofs.Putting.{Still, still-all, still-rest, still-none}
-use Rattle.pick.proofs.Standing.{Row, none, more, row, row-short, only, Sized, sized, Stands}
+use Rattle.pick.proofs.Standing.{Row, none, more, row, row-short, only, sized, Stands}
 
 -- ---- the cuts
 

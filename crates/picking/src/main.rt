@@ -11,12 +11,12 @@ ghost use lib.ListN.{length};
 use crate::telling::print_refused;
 use crate::telling::print_written;
 use crate::words::say_refused;
-use crate::words::say_written;
 use libc::STDIN_FILENO;
 use pick::Picked;
 use printing::behind;
 use printing::fill;
 use printing::first;
+use printing::print_volume;
 use printing::word;
 
 // In a room that is filled with AA before; how many bytes are written.
@@ -38,7 +38,7 @@ fn print_pick(file: &[u8], wanted: u64, room: &mut [u8]) -> usize {
 fn say_pick(file: &[u8], wanted: u64, room: &mut [u8]) {
     let picked = pick::pick(file, wanted, room);
     match picked {
-        Picked::Written(size) => say_written(first(room, size)),
+        Picked::Written(size) => print_volume(first(room, size)),
         Picked::Refused(number, place) => say_refused(number, place),
     }
 }

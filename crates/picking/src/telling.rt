@@ -2,23 +2,10 @@
 // room, so that no byte is stored unseen.
 use printing::bare_refused;
 use printing::first;
-use printing::newline;
 use printing::number;
-use printing::print_verdict;
-use printing::sum;
+use printing::print_read;
+use printing::print_sum;
 use printing::word;
-use reading::Reading;
-
-fn print_sum(room: &[u8]) {
-    number(sum(room) as u64);
-    newline();
-}
-
-fn print_read(r: Reading) {
-    let verdict = r.verdict;
-    print_verdict(verdict);
-    number(r.radials as u64);
-}
 
 // The volume is the first bytes of the room.
 pub(crate) fn print_written(room: &[u8], size: usize) {

@@ -1,16 +1,8 @@
-// What is printed of a pick for the command line: the volume's length, and behind that line its bytes as they are; or the refusal, and in
-// the next line what it means.
+// What is printed of a refused pick for the command line: the refusal, and in the next line what it means.
 use printing::bare_refused;
 use printing::newline;
 use printing::number;
 use printing::word;
-
-pub(crate) fn say_written(volume: &[u8]) {
-    word(b"written");
-    number(volume.len() as u64);
-    newline();
-    word(volume);
-}
 
 fn say_refusal(n: u32) {
     match n {

@@ -114,6 +114,27 @@ pub fn sum(s: &[u8]) -> u32
     n
 }
 
+// The checksum of all of a room, at a line's end, so that no byte is stored unseen.
+pub fn print_sum(room: &[u8]) {
+    number(sum(room) as u64);
+    newline();
+}
+
+// What is told of a volume, and how many whole radials it has.
+pub fn print_read(r: Reading) {
+    let verdict = r.verdict;
+    print_verdict(verdict);
+    number(r.radials as u64);
+}
+
+// A written volume for the command line: its length, and behind that line its bytes as they are.
+pub fn print_volume(volume: &[u8]) {
+    word(b"written");
+    number(volume.len() as u64);
+    newline();
+    word(volume);
+}
+
 // One byte all over a room, so that what is stored there afterwards shows.
 pub fn fill(room: &mut [u8], byte: u8)
     ensures { λ _. ⌜ now (room .exit) ≡ replicate (length (now (room .entry))) byte ⌝ }

@@ -1,11 +1,11 @@
 -- What the first pass found decides everything. Assumes nothing.
 use Prim.Native.Nat.{ℕ}
 use native.Mathlib.Omega.{arith}
-use mathlib.Core.Path.{_≡_, sym, ap, _∙_}
+use mathlib.Core.Path.{sym, ap, _∙_}
 use borrow.Author.Needs.{needs}
 use borrow.Author.Tests.{le-leb, lt-leb}
 use lib.ListN.{length}
-use Rattle.le.proofs.Laws.{length-patch, stored-in, stored-out}
+use Rattle.le.proofs.Laws.{stored-in, stored-out}
 use Rattle.gates.specs.Telling.{answered, refused}
 use Rattle.pick.specs.Pick.{answerBy, picked, roomBy}
 use Rattle.pick.proofs.Planning.{is-complete}

@@ -1,9 +1,8 @@
 -- The four stores lie in the room. Assumes nothing.
 use Prim.Native.Nat.{ℕ, _+_, _%_, _^_}
 use native.Mathlib.Omega.{arith}
-use mathlib.Core.Path.{sym, ap, ap₂, _∙_}
+use mathlib.Core.Path.{sym, ap, _∙_}
 use borrow.Author.Needs.{needs}
-use lib.ListN.{length, take}
 use lib.Seq.{length-take-le}
 use Rattle.le.specs.Le.{bytes, stored}
 use Rattle.pick.specs.declared.keep.Kept.{Kept}

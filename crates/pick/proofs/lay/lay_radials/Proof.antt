@@ -1,10 +1,9 @@
 -- The radials so far are laid, and the others are still to come. Assumes nothing.
 use Prim.Native.Nat.{ℕ, _+_, _-_, _≤_}
 use native.Mathlib.Omega.{arith}
-use mathlib.Core.Path.{_≡_, refl, sym, ap, subst, _∙_}
+use mathlib.Core.Path.{_≡_, sym, ap, _∙_}
 use borrow.Author.Needs.{needs}
 use lib.ListN.{length, take, drop}
-use Rattle.le.specs.Le.{le}
 use Rattle.le.proofs.Laws.{length-patch}
 use Rattle.pick.proofs.Turns.{Radials, RadialTurn, endAt, end-in, radials-first, radials-more, radials-all}
 use Rattle.pick.proofs.lay.lay_radials.Statement.{statement}
