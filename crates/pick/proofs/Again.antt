@@ -1,7 +1,7 @@
 -- One mask and then another: what is taken, what is written and what is refused is that of the bits they share. Assumes nothing.
 use Prim.Native.Nat.{ℕ, suc}
 use native.Mathlib.Omega.{arith}
-use mathlib.Core.Bool.{Bool, true, false}
+use mathlib.Core.Bool.{Bool, true, false, cond}
 use mathlib.Core.List.{List, [], _∷_, map}
 use mathlib.Core.Logic.{_↔_, _⊎_, inl, inr}
 use mathlib.Core.Path.{_≡_, refl, sym, ap, subst, _∙_}
@@ -42,31 +42,27 @@ module _ (m w : ℕ) where
 
     -- ---- the first of some radials
 
-    -- of ss in f the first of which both masks leave none, and of us in g the first of which w leaves none, have the same number
-    record Meets (ss us : List Stretch) : Type 0 where
+    -- s of ss in f, and the first of us in g of which w leaves none, have the same number
+    record Meets (s : Stretch) (ss us : List Stretch) : Type 0 where
       before : ℕ
-      given : Stretch
       then : Stretch
-      here : nth ss (suc before) ≡ There given
+      here : nth ss (suc before) ≡ There s
       there : nth us (suc before) ≡ There then
-      common : firstEmpty (bitAnd m w) f ss ≡ There given
       second : firstEmpty w g us ≡ There then
 
-    -- so it is where us are what a pick by m makes of ss
-    meets : {ss us : List Stretch} (bs : List VolumeRadial) (s : Stretch) → Owned f ss bs → Owned g us (map (onlyRadial m) bs) → firstEmpty (bitAnd m w) f ss ≡ There s → Meets ss us
+    -- so it is where s is the first of ss of which both masks leave none, and us are what a pick by m makes of ss
+    meets : {ss us : List Stretch} (bs : List VolumeRadial) (s : Stretch) → Owned f ss bs → Owned g us (map (onlyRadial m) bs) → firstEmpty (bitAnd m w) f ss ≡ There s → Meets s ss us
     unfolding firstEmpty nth
     meets [] s none none e = absurd (let z : _≡_ {A = ℕ} 0 1 = cc in omega arith)
     meets (b ∷ bs) s (more {s = i} {ss = ss} x xs) (more {s = j} {ss = us} y ys) e =
-        go (empties (bitAnd m w) (bytesOf f i)) refl (meets bs s xs ys)
+        go (empties (bitAnd m w) (bytesOf f i)) refl e (meets bs s xs ys)
       where
-        go : (t : Bool) → empties (bitAnd m w) (bytesOf f i) ≡ t → (firstEmpty (bitAnd m w) f ss ≡ There s → Meets ss us) → Meets (i ∷ ss) (j ∷ us)
-        go true d rest =
+        go : (t : Bool) → empties (bitAnd m w) (bytesOf f i) ≡ t → cond t (There i) (firstEmpty (bitAnd m w) f ss) ≡ There s → (firstEmpty (bitAnd m w) f ss ≡ There s → Meets s ss us) → Meets s (i ∷ ss) (j ∷ us)
+        go true d q rest = let k = empties-twice i j b x y ∙ d in record { before = 0; then = j; here = q; there = refl; second = rw k }
+        go false d q rest =
             let k = empties-twice i j b x y ∙ d in
-            record { before = 0; given = i; then = j; here = refl; there = refl; common = rw d; second = rw k }
-        go false d rest =
-            let k = empties-twice i j b x y ∙ d in
-            let r = rest (rw d at e) in
-            record { before = suc (r .before); given = r .given; then = r .then; here = r .here; there = r .there; common = rw d (r .common); second = rw k (r .second) }
+            let r = rest q in
+            record { before = suc (r .before); then = r .then; here = r .here; there = r .there; second = rw k (r .second) }
 
   -- ---- the volume
 
@@ -113,17 +109,17 @@ module _ (m w : ℕ) where
         ap (picked w) written ∙ volume-picked w once ok ∙ ap bytesOfVolume (only-twice m w v) ∙ sym (volume-picked (bitAnd m w) v is)
 
     -- where that is refused, the first is, or the second is at the same radial
-    same-refused : (s : Stretch) → emptyIn (bitAnd m w) file ≡ There s → ((u : Stretch) × (emptyIn m file ≡ There u)) ⊎ SameRadial m w file
+    same-refused : (s : Stretch) → emptyIn (bitAnd m w) file ≡ There s → ((u : Stretch) × (emptyIn m file ≡ There u)) ⊎ SameRadial m w file s
     same-refused s e = go (emptyIn m file) refl
       where
-        go : (x : Found) → emptyIn m file ≡ x → ((u : Stretch) × (emptyIn m file ≡ There u)) ⊎ SameRadial m w file
+        go : (x : Found) → emptyIn m file ≡ x → ((u : Stretch) × (emptyIn m file ≡ There u)) ⊎ SameRadial m w file s
         go (There u) d = inl (u, d)
         go Nowhere d =
             let ok = only-is m v is (left-is m v is .0 d) in
             let r =
-            subst (λ (g : List ℕ). Meets file g (stretches file) (stretches g)) (sym written)
+            subst (λ (g : List ℕ). Meets file g s (stretches file) (stretches g)) (sym written)
             (meets file (bytesOfVolume once) (flat (v .layers)) s (own v is) (own-only m v ok) e) in
-            inr (record { number = suc (r .before); given = r .given; then = r .then; here = r .here; there = r .there; common = r .common; second = r .second })
+            inr (record { number = suc (r .before); then = r .then; here = r .here; there = r .there; second = r .second })
 
     -- the statement, of a volume's bytes
     volume-twice : Twice m w file

@@ -15,7 +15,7 @@ use Rattle.reading.specs.declared.Found.{Found}
 use Rattle.reading.specs.declared.Found.the-variants.{There, Nowhere}
 use Rattle.reading.specs.declared.Stretch.{Stretch}
 use Rattle.reading.specs.Reading.{bytesOf, stretches, told}
-use Rattle.volume.specs.InPlace.{taskBlock}
+use Rattle.mend.specs.Mend.{behindCut, cutNumber}
 use Rattle.pick.specs.declared.plan.Plan.{Plan}
 use Rattle.pick.specs.declared.plan.Plan.the-variants.{Fits, Empty, Unfinished}
 use Rattle.pick.specs.declared.Picked.{Picked}
@@ -30,7 +30,7 @@ pickedCut wanted b = patch b 84 (bytes 8 (bitAnd (le 8 b 84) wanted))
 
 -- a file's cut blocks: as many as its task says, behind the task's ("Blocks")
 abbrev pub cutBlocks : List ℕ → List (List ℕ)
-cutBlocks f = items (part cutSize) cutSize (taskBlock f .«cut_number») f (cutPlace 1)
+cutBlocks f = items (part cutSize) cutSize (cutNumber f) f (cutPlace 1)
 
 -- its radials with the wanted moments only
 abbrev pub pickedRadials : ℕ → List ℕ → List ℕ
@@ -42,7 +42,7 @@ picked wanted f = take (cutPlace 1) f ++ run (pickedCut wanted) (cutBlocks f) ++
 
 -- where the first radial starts: behind the last cut's block ("Blocks")
 abbrev pub radialsAt : List ℕ → ℕ
-radialsAt f = cutPlace (taskBlock f .«cut_number») + cutSize
+radialsAt f = behindCut (cutNumber f)
 
 -- ---- the answer
 

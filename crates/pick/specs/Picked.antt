@@ -17,6 +17,7 @@ use Rattle.reading.specs.declared.Found.the-variants.{There, Nowhere}
 use Rattle.reading.specs.declared.Stretch.{Stretch}
 use Rattle.reading.specs.Reading.{nth, stop, stretches}
 use Rattle.volume.specs.InPlace.{cutBlock, taskBlock}
+use Rattle.mend.specs.Mend.{cutNumber}
 use Rattle.volume.specs.Volume.{Volume, IsVolume, bytesOfVolume}
 use Rattle.ask.specs.declared.places.Where.the-variants.{NoMoment}
 use Rattle.ask.specs.Answers.{radialOfFile, momentTold, dataTold, Unfilled}
@@ -72,7 +73,7 @@ pub record Kept (f g : List ℕ) (wanted n : ℕ) : Type 0 where
 pub record Fronted (f g : List ℕ) (wanted : ℕ) : Type 0 where
   pub same : take (cutPlace 1) g ≡ take (cutPlace 1) f
   pub task : taskBlock g ≡ taskBlock f
-  pub cuts : (k : ℕ) → 1 ≤ k → k ≤ taskBlock f .«cut_number» → cutBlock g k ≡ withMask (cutBlock f k) (bitAnd (cutBlock f k .«moments_mask») wanted)
+  pub cuts : (k : ℕ) → 1 ≤ k → k ≤ cutNumber f → cutBlock g k ≡ withMask (cutBlock f k) (bitAnd (cutBlock f k .«moments_mask») wanted)
 
 -- the file as the volume that it is; what is written is that volume with the wanted moments only, record for record
 pub record InRecords (wanted : ℕ) (f : List ℕ) : Type 0 where
@@ -98,14 +99,12 @@ pub record Picking (wanted : ℕ) (f : List ℕ) : Type 0 where
 
 -- ---- one mask and then another
 
--- the first radial of f without a moment in both masks: where it stands in f, and in the volume picked by the first
-pub record SameRadial (m w : ℕ) (f : List ℕ) : Type 0 where
+-- the second step is refused at the radial that is s in f
+pub record SameRadial (m w : ℕ) (f : List ℕ) (s : Stretch) : Type 0 where
   pub number : ℕ
-  pub given : Stretch
   pub then : Stretch
-  pub here : nth (stretches f) number ≡ There given
+  pub here : nth (stretches f) number ≡ There s
   pub there : nth (stretches (picked m f)) number ≡ There then
-  pub common : emptyIn (bitAnd m w) f ≡ There given
   pub second : emptyIn w (picked m f) ≡ There then
 
 pub record Twice (m w : ℕ) (f : List ℕ) : Type 0 where
@@ -114,12 +113,12 @@ pub record Twice (m w : ℕ) (f : List ℕ) : Type 0 where
   -- and then the same bytes are written
   pub same : Taken m f → picked w (picked m f) ≡ picked (bitAnd m w) f
   -- where the common bits are refused by 60, the first step is, or the second is at the same radial
-  pub refused : Complete f → (s : Stretch) → emptyIn (bitAnd m w) f ≡ There s → ((u : Stretch) × (emptyIn m f ≡ There u)) ⊎ SameRadial m w f
+  pub refused : Complete f → (s : Stretch) → emptyIn (bitAnd m w) f ≡ There s → ((u : Stretch) × (emptyIn m f ≡ There u)) ⊎ SameRadial m w f s
 
 -- ---- a mask in which every cut's mask lies
 
 abbrev pub CutsIn : ℕ → List ℕ → Type 0
-CutsIn wanted f = (k : ℕ) → 1 ≤ k → k ≤ taskBlock f .«cut_number» → bitAnd (cutBlock f k .«moments_mask») wanted ≡ cutBlock f k .«moments_mask»
+CutsIn wanted f = (k : ℕ) → 1 ≤ k → k ≤ cutNumber f → bitAnd (cutBlock f k .«moments_mask») wanted ≡ cutBlock f k .«moments_mask»
 
 pub record GivenBack (f : List ℕ) : Type 0 where
   pub same : (wanted : ℕ) → CutsIn wanted f → Taken wanted f × (picked wanted f ≡ f)
