@@ -76,7 +76,10 @@ fn lay_radial(b: &[u8], wanted: u64, room: &mut [u8], to: usize) -> usize
     ensures { λ r. ⌜ r ≡ to + radialSize + length (keptBytes wanted (now (b .entry))) ⌝ }
     ensures { λ _. ⌜ now (room .exit) ≡ patch (now (room .entry)) to (pickedRadial wanted (now (b .entry))) ⌝ }
 {
-    le::put(room, to, &b[..Radial::SIZE]);
+    // By way of an array: so short a run from slice to slice is copied byte by byte.
+    let mut head = [0u8; 64];
+    le::copy_out(b, 0, &mut head);
+    le::put(room, to, &head);
     let kept = lay_moments(b, wanted, room, to + Radial::SIZE);
     le::put_u32(
         room,
