@@ -38,6 +38,33 @@ KEEPING, PIECES, CLOSED, VIEW, MEND_BYTES, PAIRED, WHOLE, REPORTS, GROWING, KEPT
 NEWEST_IF = '\n    ∙ ap (λ (b : Bool). cond b (There s) (a .before)) '
 KEPT_IF = ' ∙ ap (λ (x : Bool). cond x (ss ++ (l ∷ [])) ss) '
 KEPT_CUT, OWN_CUTS = 'behindCut (s .cut)', 'behindCut (cutNumber f)'
+PICKED, WANTED = 'crates/pick/specs/Pick.antt', 'crates/pick/specs/Keep.antt'
+PICK_KEEP, PICK_LAY, PICK_PLAN = (f'crates/pick/src/{name}.rt' for name in ('keep', 'lay', 'plan'))
+WANTING, LAYING, TURNS, PLANNING, PLANS, EMPTY, LAY_CUT = (
+    f'crates/pick/proofs/{path}.antt' for path in ('Keeping', 'Laying', 'Turns', 'Planning', 'Plans', 'plan/first_empty/Proof', 'lay/lay_cut/Proof'))
+OWN_MASK, MASK_THERE, MASK = 'bitAnd (le 8 b 84) wanted', 'bitAnd (le 8 f (at + 84)) wanted', 'bitAnd m wanted'
+OR_ELSE = '''-- what was found, or else something
+unfoldable pub orElse : Found → Found → Found
+orElse Nowhere other = other
+orElse (There s) other = There s
+
+'''
+THIS_EMPTY, FIRST_EMPTY = (f'cond (empties wanted (bytesOf f s)) (There s) {rest}' for rest in ('Nowhere', '(firstEmpty wanted f ss)'))
+FOUND = 'ap (λ (x : Found). orElse x (cond (eqb (a .moments) 0) (There (a .s)) Nowhere)) '
+RETURNS_FOUND = f'''returns-2 : tie.Need-returns-2
+unfolding orElse
+returns-2 c =
+    let a = c .before .before .args in
+    let e = c .enum-told .given .1 in
+    e ∙ sym ({FOUND}e)
+
+'''
+OR_NONE = '''  or-none : (x : Found) → orElse x Nowhere ≡ x
+  unfolding orElse
+  or-none Nowhere = refl
+  or-none (There s) = refl
+
+'''
 
 
 def swapped(path, one, other):
@@ -430,6 +457,104 @@ SLIPS = {
         (MENDED, 'from = s .end', 'from = s .start'),
         (REPORT, 'from: s.end', 'from: s.start'),
         ('crates/mend/proofs/report/report_of/Proof.antt', 'from = s .end', 'from = s .start'),
+    ],
+    # bit t for type t, in the choice of the moments and in the cuts' masks (document 02, #111)
+    'wanted_by_bit_t': [
+        (WANTED, 'bit wanted', 'bit (wanted / 2)'),
+        (WANTED, 'Nat.{ℕ, _+_}', 'Nat.{ℕ, _+_, _/_}'),
+        (PICKED, OWN_MASK, 'bitAnd (le 8 b 84) (wanted / 2)'),
+        (PICKED, 'Nat.{ℕ, _+_}', 'Nat.{ℕ, _+_, _/_}'),
+        (PICK_KEEP, 'bit wanted', 'bit (wanted / 2)'),
+        (PICK_KEEP, 'bit(wanted,', 'bit(wanted / 2,'),
+        (PICK_KEEP, 'Nat.{_-_}', 'Nat.{_-_, _/_}'),
+        (PICK_LAY, '& wanted', '& (wanted / 2)'),
+        ('crates/pick/proofs/keep/wants/Proof.antt', 'bit (a .wanted)', 'bit (a .wanted / 2)'),
+        ('crates/pick/proofs/keep/wants/Proof.antt', 'use borrow.Author.Needs', 'use Prim.Native.Nat.{_/_}\nuse borrow.Author.Needs'),
+        (WANTING, 'bit wanted', 'bit (wanted / 2)'),
+        (WANTING, '_+_, _-_', '_+_, _-_, _/_'),
+        (LAYING, OWN_MASK, 'bitAnd (le 8 b 84) (wanted / 2)'),
+        (LAYING, MASK_THERE, 'bitAnd (le 8 f (at + 84)) (wanted / 2)'),
+        (LAYING, MASK, 'bitAnd m (wanted / 2)'),
+        (LAYING, '_+_, _%_', '_+_, _/_, _%_'),
+        (TURNS, OWN_MASK, 'bitAnd (le 8 b 84) (wanted / 2)'),
+        (TURNS, '_-_, _*_', '_-_, _*_, _/_'),
+        (LAY_CUT, 'bitAnd m (a .wanted)', 'bitAnd m (a .wanted / 2)'),
+        (LAY_CUT, 'Nat.{ℕ, _+_}', 'Nat.{ℕ, _+_, _/_}'),
+    ],
+    # the cuts' masks left as they were (document 02, #111)
+    'mask_left': [
+        (PICKED, OWN_MASK, 'le 8 b 84'),
+        (PICK_LAY, ' & wanted', ''),
+        (LAYING, OWN_MASK, 'le 8 b 84'),
+        (LAYING, MASK_THERE, 'le 8 f (at + 84)'),
+        (LAYING, MASK, 'm'),
+        (TURNS, OWN_MASK, 'le 8 b 84'),
+        (LAY_CUT, 'bitAnd m (a .wanted)', 'm'),
+    ],
+    # length of data left as it was: the new one put where the moment number then is (document 02, #111)
+    'length_left': [
+        (WANTED, 'keptBytes wanted b) 36', 'keptBytes wanted b) 40'),
+        (PICK_LAY, 'to + Radial::LENGTH_OF_DATA', 'to + Radial::MOMENT_NUMBER'),
+        (LAYING, '36', '40'),
+        ('crates/pick/proofs/lay/lay_radial/Proof.antt', '.to + 36', '.to + 40'),
+    ],
+    # a kept moment's data without its header (document 02, #111)
+    'data_without_header': [
+        (WANTED, 'take (momentSize + momentAt b at .length) (drop at b)', 'dataAt b at'),
+        (WANTED, '{momentsOf}', '{momentsOf, dataAt}'),
+        (PICK_KEEP, 'now r ≡ take (end - at) (drop at (now (b .entry)))', 'now r ≡ dataAt (now (b .entry)) at'),
+        (PICK_KEEP, 'ghost use Rattle.pick', 'ghost use Rattle.moments.specs.Moments.{dataAt};\nghost use Rattle.pick'),
+        (PICK_KEEP, 'reading::own(\n        b,\n        Stretch {\n            start: at,\n            end,\n            cut: 0,\n        },\n    )',
+         'moments::data(b, at)'),
+        (WANTING, 'm ≡ take (q .at - at) (drop at b) →', 'm ≡ dataAt b at →'),
+        (WANTING, '(ap (λ (x : ℕ). take x (drop at b)) l ∙ sym d)', '(sym d)'),
+        (WANTING, '  unfolding run\n  run-more', '  unfolding run dataAt\n  run-more'),
+        (WANTING, 'length-take (32 + momentAt b at .length) (drop at b)', 'length-take (momentAt b at .length) (drop (at + 32) b)'),
+        (WANTING, 'length-drop at b', 'length-drop (at + 32) b'),
+        (WANTING, 'aheadOf, firstOf', 'aheadOf, dataAt, firstOf'),
+    ],
+    # the last radial that would have no moment left told, and not the first (document 02, #111)
+    'last_empty_told': [
+        (PICKED, OR_ELSE, ''),
+        (PICKED, '-- the first of some radials', OR_ELSE + '-- the first of some radials'),
+        (PICKED, FIRST_EMPTY, f'orElse (firstEmpty wanted f ss) ({THIS_EMPTY})'),
+        (PICK_PLAN, 'orElse found (cond (eqb moments 0) (There s) Nowhere)', 'cond (eqb moments 0) (There s) found'),
+        (PICK_PLAN, '    match found {\n        Found::There(_) => found,\n        Found::Nowhere => {\n', '    {\n        {\n'),
+        (EMPTY, RETURNS_FOUND, ''),
+        (EMPTY, f'({FOUND}(c .before .enum-told2 .given .1)\n    ∙ ', '('),
+        (EMPTY, f'    let e = c .before .enum-told2 .given .1 in\n    e\n    ∙ sym ({FOUND}e\n    ∙ ', '    sym ('),
+        (EMPTY, 'c .before .before .before .args', 'c .before .args'),
+        (EMPTY, '(There (a .s)) Nowhere', '(There (a .s)) (a .found)'),
+        (EMPTY, '(λ c. search needs) (λ c. search needs) returns returns-2', 'returns'),
+        (EMPTY, 'returns-3', 'returns-2'),
+        (PLANNING, 'orElse empty (firstEmpty wanted f (trace (fuel f) f w))', 'orElse (firstEmpty wanted f (trace (fuel f) f w)) empty'),
+        (PLANNING, 'orElse empty (firstEmpty wanted f (s ∷ ss))', 'orElse (firstEmpty wanted f (s ∷ ss)) empty'),
+        (PLANNING, '  pub planned-none', OR_NONE + '  pub planned-none'),
+        (PLANNING, 'first = refl })', 'first = or-none _ })'),
+        (PLANNING, 'orElse (orElse empty (cond b (There s) Nowhere)) rest ≡ orElse empty (cond b (There s) rest)',
+         'orElse rest (cond b (There s) empty) ≡ orElse (orElse rest (cond b (There s) Nowhere)) empty'),
+        (PLANNING, 'Nowhere s rest = refl', 'empty s Nowhere = refl'),
+        (PLANNING, '(There u) s rest = refl', 'empty s (There u) = refl'),
+        (PLANNING, f'(orElse empty ({THIS_EMPTY}))', '(cond (empties wanted (bytesOf f s)) (There s) empty)'),
+        (PLANNING, 'orElse empty Nowhere', 'orElse Nowhere empty'),
+        (PLANNING, 'sym (none empty) ∙ first', 'first'),
+    ],
+    # 60 told at the end of the radial (document 02, #111)
+    'sixty_at_the_end': [
+        (PICKED, '(There s) = refused 60 (s .start)', '(There s) = refused 60 (s .end)'),
+        (PICKED, 'Empty (s .start)', 'Empty (s .end)'),
+        (PICK_PLAN, 'Plan::Empty(s.start)', 'Plan::Empty(s.end)'),
+        (PLANS, '(Empty (s .start))', '(Empty (s .end))'),
+        (PLANS, 'place ≡ first .start', 'place ≡ first .end'),
+    ],
+    # a radial that would have no moment left let through (document 02, #111)
+    'none_left_let_through': [
+        (PICKED, FIRST_EMPTY, 'firstEmpty wanted f ss'),
+        (PICK_PLAN, '(There s) Nowhere', 'Nowhere Nowhere'),
+        (PICK_PLAN, 'return Found::There(s);', 'return Found::Nowhere;'),
+        (EMPTY, '(There (a .s)) Nowhere', 'Nowhere Nowhere'),
+        (PLANNING, '(There s) Nowhere', 'Nowhere Nowhere'),
+        (PLANNING, 'orElse empty (cond b (There s) rest)', 'orElse empty rest'),
     ],
 }
 

@@ -114,12 +114,18 @@ module _ (wanted : ℕ) (f : List ℕ) where
       go false d r (suc (suc m)) k rest = rest r (suc m) k
 
   pub by-questions : ByQuestions wanted f
-  unfolding Some
+  unfolding Some radialTold
   by-questions =
       record {
         first = λ s e.
             let n = first-of (stretches f) s e in
-            record { number = suc (n .before); is = n .is; none = λ t w. subst (λ (x : radial.Found). momentTold f (inFound f x t) .number ≡ 31) (sym (n .is)) (none-told s (n .empty) t w); before = λ k low high. n .others k low (omega arith) };
+            record {
+              number = suc (n .before);
+              is = n .is;
+              place = rw (n .is);
+              none = λ t w. subst (λ (x : radial.Found). momentTold f (inFound f x t) .number ≡ 31) (sym (n .is)) (none-told s (n .empty) t w);
+              before = λ k low high. n .others k low (omega arith);
+            };
         each = each-of (stretches f);
       }
 

@@ -38,10 +38,12 @@ pub record Taken (wanted : ℕ) (f : List ℕ) : Type 0 where
 abbrev pub SomeWanted : ℕ → List ℕ → ℕ → Type 0
 SomeWanted wanted f n = (t : ℕ) × ((bit wanted t ≡ true) × (momentTold f (whereIs f n t) .number ≡ 0))
 
--- s is the first that has none: of each wanted type 31 is told of it, and every radial before it has one
+-- s is the first that has none: of each wanted type 31 is told of it, and every radial before it has one; its place is that which is told
+-- of the radial
 pub record First (wanted : ℕ) (f : List ℕ) (s : Stretch) : Type 0 where
   pub number : ℕ
   pub is : nth (stretches f) number ≡ There s
+  pub place : radialOfFile f number .place ≡ s .start
   pub none : (t : ℕ) → bit wanted t ≡ true → momentTold f (whereIs f number t) .number ≡ 31
   pub before : (k : ℕ) → 1 ≤ k → k < number → SomeWanted wanted f k
 
