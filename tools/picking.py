@@ -15,48 +15,46 @@ REFUSALS = {36: 'the file is not complete', 60: 'the radial there would have no 
             33: 'the room is too short for the volume'}
 
 
-def with_fields(kind, block, **fields):
-    """The block with other contents in some fields ('_' in a name stands for a space)."""
+def set_anew(kind, block, **fields):
+    """The block's bytes with these fields set anew ('_' in a name stands for a space), all others unchanged."""
     out = bytearray(block)
     for name, value in fields.items():
-        name = name.replace('_', ' ')
-        struct.pack_into(ref.FORMAT[kind, name], out, ref.PLACE[kind, name], value)
+        field = kind, name.replace('_', ' ')
+        struct.pack_into(ref.FORMAT[field], out, ref.PLACE[field], value)
     return bytes(out)
 
 
 def picked_cut(block, wanted):
-    """"each cut's moments mask cut down to the wanted bits"."""
-    mask = ref.unpack('cut', block)['moments mask']
-    return with_fields('cut', block, moments_mask=mask & wanted)
+    """A cut whose moments mask is cut down to the wanted bits."""
+    return set_anew('cut', block, moments_mask=ref.unpack('cut', block)['moments mask'] & wanted)
+
+
+def kept_moments(radial, wanted):
+    """Those moments of the radial whose types are wanted, in their order."""
+    return [m for m in radial.moments if ref.bit(wanted, m.type)]
 
 
 def picked_radial(data, radial, wanted):
-    """"length of data and moment number set anew"; None where it would have no moment left."""
-    moments = [data[m.header_place:m.place + m.length] for m in radial.moments if ref.bit(wanted, m.type)]
-    if not moments:
-        return None
-    behind = b''.join(moments)
+    """A radial with those moments only, its length of data and moment number set anew."""
+    kept = kept_moments(radial, wanted)
+    moments = b''.join(data[m.header_place:m.place + m.length] for m in kept)
     header = data[radial.place:radial.place + ref.SIZES['radial']]
-    return with_fields('radial', header, length_of_data=len(behind), moment_number=len(moments)) + behind
+    return set_anew('radial', header, length_of_data=len(moments), moment_number=len(kept)) + moments
 
 
 def pick(data, wanted, room_length):
-    """The volume, or a refusal. Order: 36, 60, 33. Type t is bit t-1 of the mask of wanted types."""
+    """Given a complete volume and a mask of wanted types, a volume with those moments only. Order: 36, 60, 33."""
     r = ref.read(data)
     if r.verdict != 'complete':
         return ref.refused(36)
-    out = []
-    for b in r.blocks:
-        if b.kind in ('generic', 'site', 'task'):
-            out.append(data[b.place:b.end])
-        elif b.kind == 'cut':
-            out.append(picked_cut(data[b.place:b.end], wanted))
     for radial in r.radials:
-        out.append(picked_radial(data, radial, wanted))
-        if out[-1] is None:
+        if not kept_moments(radial, wanted):            # a radial would have no moment left
             return ref.refused(60, radial.place)
-    volume = b''.join(out)
-    return volume if len(volume) <= room_length else ref.refused(33)
+    cuts = [b for b in r.blocks if b.kind == 'cut']
+    out = r.data[:cuts[0].place]                        # generic, site and task stay as they are
+    out += b''.join(picked_cut(r.data[b.place:b.end], wanted) for b in cuts)
+    out += b''.join(picked_radial(r.data, radial, wanted) for radial in r.radials)
+    return ref.refused(33) if room_length < len(out) else out
 
 
 def refusal_words(told):

@@ -40,8 +40,9 @@ KEPT_IF = ' ∙ ap (λ (x : Bool). cond x (ss ++ (l ∷ [])) ss) '
 KEPT_CUT, OWN_CUTS = 'behindCut (s .cut)', 'behindCut (cutNumber f)'
 PICKED, WANTED = 'crates/pick/specs/Pick.antt', 'crates/pick/specs/Keep.antt'
 PICK_KEEP, PICK_LAY, PICK_PLAN = (f'crates/pick/src/{name}.rt' for name in ('keep', 'lay', 'plan'))
-WANTING, LAYING, TURNS, PLANNING, PLANS, EMPTY, LAY_CUT = (
-    f'crates/pick/proofs/{path}.antt' for path in ('Keeping', 'Laying', 'Turns', 'Planning', 'Plans', 'plan/first_empty/Proof', 'lay/lay_cut/Proof'))
+WANTING, LAYING, TURNS, PLANNING, PLANS, EMPTY, PICK_BYTES, PICK_AGAIN, PICK_FIRST, LAY_CUT = (
+    f'crates/pick/proofs/{path}.antt' for path in ('Keeping', 'Laying', 'Turns', 'Planning', 'Plans', 'plan/first_empty/Proof', 'Bytes', 'Again', 'First',
+                                                   'lay/lay_cut/Proof'))
 OWN_MASK, MASK_THERE, MASK = 'bitAnd (le 8 b 84) wanted', 'bitAnd (le 8 f (at + 84)) wanted', 'bitAnd m wanted'
 OR_ELSE = '''-- what was found, or else something
 unfoldable pub orElse : Found → Found → Found
@@ -57,6 +58,89 @@ returns-2 c =
     let a = c .before .before .args in
     let e = c .enum-told .given .1 in
     e ∙ sym ({FOUND}e)
+
+'''
+NOT_ZERO = '(let z : _≡_ {A = ℕ} 0 1 = cc in omega arith)'
+NONE_HERE, NONE_IN = 'empties (bitAnd m w) (bytesOf f i)', 'firstEmpty (bitAnd m w) f ss'
+MEETS_CALL = f'go ({NONE_HERE}) refl e (meets bs s xs ys)'
+MEETS_GO = f'''        go : (t : Bool) → {NONE_HERE} ≡ t → cond t (There i) ({NONE_IN}) ≡ There s → ({NONE_IN} ≡ There s → Meets s ss us) → Meets s (i ∷ ss) (j ∷ us)
+        go true d q rest = let k = empties-twice i j b x y ∙ d in record {{ before = 0; then = j; here = q; there = refl; second = rw k }}
+        go false d q rest =
+            let k = empties-twice i j b x y ∙ d in
+            let r = rest q in
+            record {{ before = suc (r .before); then = r .then; here = r .here; there = r .there; second = rw k (r .second) }}
+'''
+MEETS_LAST = f'''        go : (l : Found) → {NONE_IN} ≡ l → (t : Bool) → {NONE_HERE} ≡ t → orElse l (cond t (There i) Nowhere) ≡ There s
+            → ({NONE_IN} ≡ There s → Meets s ss us) → Meets s (i ∷ ss) (j ∷ us)
+        go (There u) l t d q rest =
+            let r = rest (l ∙ q) in
+            record {{ before = suc (r .before); then = r .then; here = r .here; there = r .there; second = rw (r .second) }}
+        go Nowhere l true d q rest =
+            let k = empties-twice i j b x y ∙ d in
+            record {{ before = 0; then = j; here = q; there = refl; second = rw (none-then bs xs ys l, k) }}
+        go Nowhere l false d q rest = absurd {NOT_ZERO}
+'''
+MEETS_ON = f'''        go : ({NONE_IN} ≡ There s → Meets s ss us) → Meets s (i ∷ ss) (j ∷ us)
+        go rest =
+            let r = rest e in
+            record {{ before = suc (r .before); then = r .then; here = r .here; there = r .there; second = r .second }}
+'''
+NONE_THEN = f'''    none-then : {{ss us : List Stretch}} (bs : List VolumeRadial) → Owned f ss bs → Owned g us (map (onlyRadial m) bs)
+        → {NONE_IN} ≡ Nowhere → firstEmpty w g us ≡ Nowhere
+    unfolding firstEmpty orElse
+    none-then [] none none e = refl
+    none-then (b ∷ bs) (more {{s = i}} {{ss = ss}} x xs) (more {{s = j}} {{ss = us}} y ys) e =
+        go ({NONE_IN}) refl ({NONE_HERE}) refl (none-then bs xs ys)
+      where
+        go : (l : Found) → {NONE_IN} ≡ l → (t : Bool) → {NONE_HERE} ≡ t → ({NONE_IN} ≡ Nowhere → firstEmpty w g us ≡ Nowhere)
+            → orElse (firstEmpty w g us) (cond (empties w (bytesOf g j)) (There j) Nowhere) ≡ Nowhere
+        go (There u) l t d rest = absurd (let q = rw l at e in {NOT_ZERO})
+        go Nowhere l true d rest = absurd (let q = rw (l, d) at e in {NOT_ZERO})
+        go Nowhere l false d rest = let k = empties-twice i j b x y ∙ d in rw (rest l, k)
+
+'''
+EACH_GO = '''  each-of (x ∷ ss) e n h = go (empties wanted (bytesOf f x)) refl e n h (each-of ss)
+    where
+      go : (b : Bool) → empties wanted (bytesOf f x) ≡ b → cond b (There x) (firstEmpty wanted f ss) ≡ radials.Nowhere → (n : ℕ) → radialTold f (nth (x ∷ ss) n) .number ≡ 0
+          → (firstEmpty wanted f ss ≡ radials.Nowhere → (m : ℕ) → radialTold f (nth ss m) .number ≡ 0 → Some ss m) → Some (x ∷ ss) n
+      go true d r n k rest = absurd (let z : _≡_ {A = ℕ} 0 1 = cc in omega arith)
+      go false d r zero k rest = absurd (omega arith)
+      go false d r (suc zero) k rest = some-told x d
+      go false d r (suc (suc m)) k rest = rest r (suc m) k
+
+'''
+EACH_LAST = '''  each-of (x ∷ ss) e n h = go (firstEmpty wanted f ss) refl (empties wanted (bytesOf f x)) refl e n h (each-of ss)
+    where
+      go : (l : radial.Found) → firstEmpty wanted f ss ≡ l → (b : Bool) → empties wanted (bytesOf f x) ≡ b → orElse l (cond b (There x) radials.Nowhere) ≡ radials.Nowhere
+          → (n : ℕ) → radialTold f (nth (x ∷ ss) n) .number ≡ 0
+          → (firstEmpty wanted f ss ≡ radials.Nowhere → (m : ℕ) → radialTold f (nth ss m) .number ≡ 0 → Some ss m) → Some (x ∷ ss) n
+      go (There u) l b d r n k rest = absurd (let z : _≡_ {A = ℕ} 0 1 = cc in omega arith)
+      go radials.Nowhere l true d r n k rest = absurd (let z : _≡_ {A = ℕ} 0 1 = cc in omega arith)
+      go radials.Nowhere l false d r zero k rest = absurd (omega arith)
+      go radials.Nowhere l false d r (suc zero) k rest = some-told x d
+      go radials.Nowhere l false d r (suc (suc m)) k rest = rest l (suc m) k
+
+'''
+FIRST_GO = '''  first-of (x ∷ ss) s e = go (empties wanted (bytesOf f x)) refl e (first-of ss s)
+    where
+      go : (b : Bool) → empties wanted (bytesOf f x) ≡ b → cond b (There x) (firstEmpty wanted f ss) ≡ There s
+          → (firstEmpty wanted f ss ≡ There s → FirstOf ss s) → FirstOf (x ∷ ss) s
+      go true d r rest = let q : x ≡ s = cc in record { before = 0; is = ap There q; empty = ap (λ (y : Stretch). empties wanted (bytesOf f y)) (sym q) ∙ d; others = λ k low high. absurd (omega arith) }
+      go false d r rest =
+          let n = rest r in
+          record { before = suc (n .before); is = n .is; empty = n .empty; others = later (n .before) d (n .others) }
+        where
+          later : (m : ℕ) → empties wanted (bytesOf f x) ≡ false → ((k : ℕ) → 1 ≤ k → k ≤ m → Some ss k) → (k : ℕ) → 1 ≤ k → k ≤ suc m → Some (x ∷ ss) k
+          later m d o zero low high = absurd (omega arith)
+          later m d o (suc zero) low high = some-told x d
+          later m d o (suc (suc k)) low high = o (suc k) (omega arith) (omega arith)
+
+'''
+FIRST_NEVER = '''  first-of (x ∷ ss) s e = absurd (never ss e)
+    where
+      never : (us : List Stretch) → firstEmpty wanted f us ≡ There s → ⊥
+      never [] q = (let z : _≡_ {A = ℕ} 0 1 = cc in omega arith)
+      never (u ∷ us) q = never us q
 
 '''
 OR_NONE = '''  or-none : (x : Found) → orElse x Nowhere ≡ x
@@ -538,6 +622,19 @@ SLIPS = {
         (PLANNING, f'(orElse empty ({THIS_EMPTY}))', '(cond (empties wanted (bytesOf f s)) (There s) empty)'),
         (PLANNING, 'orElse empty Nowhere', 'orElse Nowhere empty'),
         (PLANNING, 'sym (none empty) ∙ first', 'first'),
+        (PICK_BYTES, '(cond t (There s) x ≡ Nowhere) ↔ ((X → ⊥) × Y)\n', '(orElse x (cond t (There s) Nowhere) ≡ Nowhere) ↔ ((X → ⊥) × Y)\nunfolding orElse\n'),
+        (PICK_BYTES, 'neither true s x i r',
+         f'neither t s (There u) i r = (λ e. absurd {NOT_ZERO}, λ y. absurd (let q = r .1 (y .1) in {NOT_ZERO}))\nneither true s Nowhere i r'),
+        (PICK_BYTES, 'neither false s x i r', 'neither false s Nowhere i r'),
+        (PICK_BYTES, 'firstEmpty, picked', 'firstEmpty, orElse, picked'),
+        (PICK_AGAIN, 'firstEmpty, picked', 'firstEmpty, orElse, picked'),
+        (PICK_AGAIN, '    -- so it is where s is the first', NONE_THEN + '    -- so it is where s is the first'),
+        (PICK_AGAIN, '    unfolding firstEmpty nth\n', '    unfolding firstEmpty nth orElse\n'),
+        (PICK_AGAIN, MEETS_CALL, f'go ({NONE_IN}) refl ({NONE_HERE}) refl e (meets bs s xs ys)'),
+        (PICK_AGAIN, MEETS_GO, MEETS_LAST),
+        (PICK_FIRST, EACH_GO, EACH_LAST),
+        (PICK_FIRST, '  unfolding firstEmpty nth Some radialTold\n', '  unfolding firstEmpty nth Some radialTold orElse\n'),
+        (PICK_FIRST, 'emptyIn, firstEmpty}', 'emptyIn, firstEmpty, orElse}'),
     ],
     # 60 told at the end of the radial (document 02, #111)
     'sixty_at_the_end': [
@@ -555,6 +652,11 @@ SLIPS = {
         (EMPTY, '(There (a .s)) Nowhere', 'Nowhere Nowhere'),
         (PLANNING, '(There s) Nowhere', 'Nowhere Nowhere'),
         (PLANNING, 'orElse empty (cond b (There s) rest)', 'orElse empty rest'),
+        (PICK_AGAIN, MEETS_CALL, 'go (meets bs s xs ys)'),
+        (PICK_AGAIN, MEETS_GO, MEETS_ON),
+        ('crates/pick/proofs/Growing.antt', 'rw (h .0) (go (empties wanted (bytesOf A x)) (first-same ss later s (h .1)) e)',
+         'first-same ss later s (h .1) e'),
+        (PICK_FIRST, FIRST_GO, FIRST_NEVER),
     ],
 }
 
