@@ -28,48 +28,16 @@ use Rattle.volume.proofs.Tells.{same-number}
 use Rattle.index.specs.Answer.{rightFor}
 use Rattle.index.specs.Forms.{Fit, oldCuts, isNew, saidBy, contentsFor, contentsOf}
 use Rattle.index.specs.Index.{indexOf, oldIndexOf, newIndexOf}
-use Rattle.index.proofs.Forms.{first-old, first-new, few-cuts, many-cuts, says-back, other-form}
+use Rattle.index.proofs.Contents.{counts-of}
+use Rattle.index.proofs.Forms.{first-old, first-new, few-cuts, many-cuts, other-form}
+use Rattle.index.proofs.Says.{Of, of-volume, of-file, fits, says}
 use Rattle.index.proofs.Same.{right-only, right-when}
 use Rattle.index.proofs.Walked.{cuts-read}
 use Rattle.demands.specs.Cuts.{Whole, cutsOf, Forms, contentsOfVolume, Cuts}
-use Rattle.demands.proofs.Contents.{counts-of, fit}
 
--- ---- a complete file and its volume
-
-record Of (v : Volume) (f : List ℕ) : Type 0 where
-  ok : IsVolume v
-  cuts : stop f .plan .cuts ≡ cutsOf f
-  layers : cutsOf f ≡ length (v .layers)
-  radials : stretches f ≡ volumeStretches v
-
-cuts-in : (f : List ℕ) → told f ≡ 0 ∷ [] → stop f .plan .cuts ≡ cutsOf f
-unfolding taskAt taskOf
-cuts-in f e = cuts-read f e ∙ sym (le-part 4 256 f 160 176 (omega arith))
-
-of-volume : (v : Volume) → IsVolume v → Of v (bytesOfVolume v)
-of-volume v ok =
-    let read = means .reads v ok in
-    let task = front (bytesOfVolume v) v [] (ok .headed) (append-nil (bytesOfVolume v)) .task in
-    let number = ap (λ (t : Task). t .«cut_number») task in
-    let same = same-number (v .task) 1 0 (v .cuts) (v .layers) (ok .layers) in
-    let headed = ok .headed .number in
-    record { ok = ok; cuts = cuts-in (bytesOfVolume v) (read .complete); layers = omega arith; radials = read .radials }
-
-held : (f : List ℕ) → Whole f → Holds f
-held f w = means .holds f (w .bytes) (w .complete)
-
-of-file : (f : List ℕ) (w : Whole f) → Of (held f w .volume) f
-of-file f w = let h = held f w in subst (Of (h .volume)) (h .bytes) (of-volume (h .volume) (h .is))
-
--- ---- its index
+-- ---- the index of a complete file
 
 module _ (f : List ℕ) {v : Volume} (o : Of v f) where
-  fits : Fit (cutsOf f) (stretches f)
-  fits = rw (o .layers, o .radials) (fit v (o .ok))
-
-  says : saidBy (indexOf f) ≡ contentsOf f
-  says = says-back (stop f .plan .cuts) (stretches f) (rw (o .cuts) fits)
-
   few : cutsOf f ≤ 50 → indexOf f ≡ oldIndexOf f
   few h = few-cuts (stop f .plan .cuts) (stretches f) (rw (o .cuts) h)
 
@@ -81,7 +49,7 @@ module _ (f : List ℕ) {v : Volume} (o : Of v f) where
 
   by-first : isNew (indexOf f) ≡ ltb 50 (cutsOf f)
   by-first =
-      let some = fits .some in
+      let some = fits f o .some in
       dite (decLt 50 (cutsOf f))
       (λ h. rw (ap oldCuts (many h) ∙ first-new (stop f .plan .cuts) (stretches f), lt-ltb 50 (cutsOf f) h))
       (λ h. rw (ap oldCuts (few (omega arith)) ∙ old-first (omega arith), ne-eqb (cutsOf f) 0 (λ z. omega arith), le-ltb 50 (cutsOf f) (omega arith)))
@@ -95,9 +63,12 @@ module _ (f : List ℕ) {v : Volume} (o : Of v f) where
         stored = λ h. right-when f (oldIndexOf f) e (few h);
         new-wrong = λ h. fails (rightFor f (newIndexOf f)) (λ r. other-form (stop f .plan .cuts) (stretches f) (sym (few h) ∙ right-only f (newIndexOf f) r .1));
         old-wrong = λ h. fails (rightFor f (oldIndexOf f)) (λ r. other-form (stop f .plan .cuts) (stretches f) (sym (right-only f (oldIndexOf f) r .1) ∙ many h));
-        fits = fits;
-        says = says;
+        fits = fits f o;
+        says = says f o;
       }
+
+own : (f : List ℕ) (w : Whole f) → Of (of-file f (w .bytes) (w .complete) .0) f
+own f w = of-file f (w .bytes) (w .complete) .1
 
 contents : (v : Volume) → IsVolume v → contentsOf (bytesOfVolume v) ≡ contentsOfVolume v
 contents v ok =
@@ -107,7 +78,7 @@ contents v ok =
 
 apart : (f g : List ℕ) → Whole f → Whole g → cutsOf f ≤ 50 → oldIndexOf f ≡ newIndexOf g → ⊥
 apart f g w u h e =
-    let o = of-file f w in
+    let o = own f w in
     let none : cutsOf f ≡ 0 = sym (old-first f o h) ∙ ap oldCuts e ∙ first-new (stop g .plan .cuts) (stretches g) in
     let some = fits f o .some in
     omega arith
@@ -121,8 +92,8 @@ many-cuts-hold =
       sequence = λ before n. count-allowed mostSequence before n (lit< tt);
       twelve = λ r d. refl;
       as-before = as-before;
-      forms = λ f w. forms f (of-file f w) (w .complete);
+      forms = λ f w. forms f (own f w) (w .complete);
       volumes = contents;
       apart = apart;
-      differ = λ f g w u e. sym (says f (of-file f w)) ∙ ap saidBy e ∙ says g (of-file g u);
+      differ = λ f g w u e. sym (says f (own f w)) ∙ ap saidBy e ∙ says g (own g u);
     }

@@ -1,4 +1,3 @@
-pub mod Contents
 pub mod Cuts
 pub mod Decoded
 pub mod Floats

@@ -1,9 +1,9 @@
--- Laws of specs/Rows: two lent buffers that a loop fills from their fronts, for both loops; and what a row answers. Assumes
--- nothing.
+-- Laws of specs/Rows: a lent buffer that a loop fills from its front, whatever is listed, and the two of a row; and what a row answers.
+-- Assumes nothing.
 use mathlib.Core.Path.{_≡_, refl, sym, ap, _∙_}
 use mathlib.Core.Bool.{Bool, true, false}
 use mathlib.Core.List.{List, [], _∷_, _++_, map}
-use Prim.Native.Nat.{ℕ, suc, _+_, _≤_, _<_}
+use Prim.Native.Nat.{ℕ, zero, suc, _+_, _≤_, _<_}
 use native.Mathlib.Numerals.{add-one}
 use native.Mathlib.Omega.{arith}
 use lib.IntN.{ℤ, pos}
@@ -18,32 +18,32 @@ use Rattle.gates.specs.Rows.{toldRow, shownOf, rowKinds, rowHundredths, 
 use Rattle.gates.specs.Telling.{refused, answered}
 use Rattle.gates.proofs.Tellings.{told-row-one}
 
--- `here` is `old` with its first i places filled by f of the codes
-pub record Partly {A : Type 0} (f : ℕ → A) (codes : List ℕ) (old : List A) (i : ℕ) (here : List A) : Type 0 where
-  pub is : here ≡ take i (map f codes) ++ drop i old
+-- `here` is `old` with its first i places filled by f of what is listed
+pub record Partly {A B : Type 0} (f : B → A) (xs : List B) (old : List A) (i : ℕ) (here : List A) : Type 0 where
+  pub is : here ≡ take i (map f xs) ++ drop i old
   pub long : length here ≡ length old
 
-module _ {A : Type 0} (f : ℕ → A) (codes : List ℕ) (old : List A) where
-  fill-none : Partly f codes old 0 old
+module _ {A B : Type 0} (f : B → A) (xs : List B) (old : List A) where
+  pub fill-none : Partly f xs old 0 old
   fill-none = record { is = refl; long = refl }
 
-  fill-turn : (i : ℕ) (here : List A) (v : A) → Partly f codes old i here → i < length codes → i < length old → v ≡ f (getD codes i 0)
-      → Partly f codes old (i + 1) (set here i v)
-  fill-turn i here v p hc ho e =
-      let head = take i (map f codes) in
-      let x = f (getD codes i 0) in
-      let ln = length-map codes f in
-      let lh : length head ≡ i = length-take-le i (map f codes) (omega arith) in
-      let last : take (suc i) (map f codes) ≡ head ++ (x ∷ []) =
-      take-suc (map f codes) i (f 0) (omega arith) ∙ ap (λ (y : A). head ++ (y ∷ [])) (List·getD-map f codes i 0) in
+  pub fill-turn : (none : B) (i : ℕ) (here : List A) (v : A) → Partly f xs old i here → i < length xs → i < length old → v ≡ f (getD xs i none)
+      → Partly f xs old (i + 1) (set here i v)
+  fill-turn none i here v p hc ho e =
+      let head = take i (map f xs) in
+      let x = f (getD xs i none) in
+      let ln = length-map xs f in
+      let lh : length head ≡ i = length-take-le i (map f xs) (omega arith) in
+      let last : take (suc i) (map f xs) ≡ head ++ (x ∷ []) =
+      take-suc (map f xs) i (f none) (omega arith) ∙ ap (λ (y : A). head ++ (y ∷ [])) (List·getD-map f xs i none) in
       record {
         is = rw (p .is, e, add-one i, drop-cons old i x ho, last)
             (set-at head (getD old i x) (drop (suc i) old) x i lh ∙ sym (append-snoc head x (drop (suc i) old)));
         long = length-set here i v ∙ p .long;
       }
 
-  fill-all : (i : ℕ) (here : List A) → Partly f codes old i here → i ≡ length codes → here ≡ filled (map f codes) old
-  fill-all i here p e = p .is ∙ rw (e, ← length-map codes f, take-length)
+  pub fill-all : (i : ℕ) (here : List A) → Partly f xs old i here → i ≡ length xs → here ≡ filled (map f xs) old
+  fill-all i here p e = p .is ∙ rw (e, ← length-map xs f, take-length)
 
 -- both buffers of a row after i gates
 pub record Begun (c : Coding) (codes k : List ℕ) (h : List ℤ) (i : ℕ) (k′ : List ℕ) (h′ : List ℤ) : Type 0 where
@@ -57,8 +57,8 @@ module _ (c : Coding) (codes k : List ℕ) (h : List ℤ) where
   pub begun-turn : {i : ℕ} {k′ : List ℕ} {h′ : List ℤ} (v : ℕ) (w : ℤ) → Begun c codes k h i k′ h′ → i < length codes → i < length k → i < length h
       → v ≡ kindOf c (getD codes i 0) → w ≡ shownOf c (getD codes i 0) → Begun c codes k h (i + 1) (set k′ i v) (set h′ i w)
   begun-turn {i} {k′} {h′} v w b hc hk hh ev ew = record {
-    kinds = fill-turn (kindOf c) codes k i k′ v (b .kinds) hc hk ev;
-    hundredths = fill-turn (shownOf c) codes h i h′ w (b .hundredths) hc hh ew;
+    kinds = fill-turn (kindOf c) codes k 0 i k′ v (b .kinds) hc hk ev;
+    hundredths = fill-turn (shownOf c) codes h 0 i h′ w (b .hundredths) hc hh ew;
   }
 
   pub begun-all : {i : ℕ} {k′ : List ℕ} {h′ : List ℤ} → Begun c codes k h i k′ h′ → i ≡ length codes → length codes ≤ length k → length codes ≤ length h
@@ -83,10 +83,15 @@ module _ (c : Coding) (codes k : List ℕ) (h : List ℤ) where
 
 -- ---- what a filled row holds
 
--- at a gate's place, what is filled in for its code
-at-gate : {A : Type 0} (f : ℕ → A) (codes : List ℕ) (old : List A) (i : ℕ) → i < length codes → getD (filled (map f codes) old) i (f 0) ≡ f (getD codes i 0)
-at-gate f codes old i l =
-    List·getD-append (map f codes) (drop (length (map f codes)) old) (f 0) i (rw (length-map codes f) l) ∙ List·getD-map f codes i 0
+-- at a place that was filled, what was filled in for it; past the end of a list any element may be read
+at-map : {A B : Type 0} (f : B → A) (xs : List B) (past : A) (none : B) (i : ℕ) → i < length xs → getD (map f xs) i past ≡ f (getD xs i none)
+at-map f [] past none i l = absurd (omega arith)
+at-map f (x ∷ xs) past none zero l = refl
+at-map f (x ∷ xs) past none (suc i) l = at-map f xs past none i (omega arith)
+
+pub at-filled : {A B : Type 0} (f : B → A) (xs : List B) (old : List A) (past : A) (none : B) (i : ℕ) → i < length xs → getD (filled (map f xs) old) i past ≡ f (getD xs i none)
+at-filled f xs old past none i l =
+    List·getD-append (map f xs) (drop (length (map f xs)) old) past i (rw (length-map xs f) l) ∙ at-map f xs past none i l
 
 pub record Shows (c : Coding) (codes : List ℕ) (n : ℕ) (k′ : List ℕ) (h′ : List ℤ) : Type 0 where
   pub all : n ≡ length codes
@@ -112,14 +117,13 @@ row-filled {c} {codes} {k} {k′} {h} {h′} {r} n p e = go (rooms codes k h) re
         absurd (let z : _≡_ {A = ℕ} 0 1 = cc in omega arith)
 
 pub row-shows : {c : Coding} {codes k k′ : List ℕ} {h h′ : List ℤ} {r : RowAnswer} (n : ℕ) → Rowed c codes k h r k′ h′ → toldRow r ≡ answered n → Shows c codes n k′ h′
-unfolding gateOf toldOf
 row-shows {c} {codes} {k} {k′} {h} {h′} n p e =
     let w = row-filled n p e in
     let all = w .all in
     record {
       all = all;
-      kind = λ i l. ap (λ (x : List ℕ). getD x i 0) (w .kinds) ∙ at-gate (kindOf c) codes k i (omega arith);
-      hundredths = λ i l. ap (λ (x : List ℤ). getD x i (pos 0)) (w .hundredths) ∙ at-gate (shownOf c) codes h i (omega arith);
+      kind = λ i l. ap (λ (x : List ℕ). getD x i 0) (w .kinds) ∙ at-filled (kindOf c) codes k 0 0 i (omega arith);
+      hundredths = λ i l. ap (λ (x : List ℤ). getD x i (pos 0)) (w .hundredths) ∙ at-filled (shownOf c) codes h (pos 0) 0 i (omega arith);
     }
 
 -- two results that are allowed for one input are one

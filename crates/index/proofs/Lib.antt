@@ -8,3 +8,5 @@ pub mod Filled
 pub mod Entries
 pub mod Layouts
 pub mod Forms
+pub mod Contents
+pub mod Says

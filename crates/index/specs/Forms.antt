@@ -1,12 +1,16 @@
 -- What the bytes of an index say, by themselves, in either form (document 02, #106), and what they are to say of a file.
-use Prim.Native.Nat.{ℕ, _+_, _*_, _^_, _<_, _≤_}
-use mathlib.Core.Bool.{Bool, cond}
+use Prim.Native.Nat.{ℕ, _+_, _-_, _*_, _^_, _<_, _≤_}
+use mathlib.Core.Bool.{Bool, cond, _&&_}
 use mathlib.Core.List.{List, [], _∷_, map}
-use lib.Dec.{eqb}
+use lib.Dec.{eqb, leb}
 use lib.ListN.{length}
 use Rattle.le.specs.Le.{le, items}
+use Rattle.reading.specs.declared.Found.{Found}
+use Rattle.reading.specs.declared.Found.the-variants as found
 use Rattle.reading.specs.declared.Stretch.{Stretch}
 use Rattle.reading.specs.Reading.{stop, stretches}
+use Rattle.index.specs.declared.said.Place.{Place}
+use Rattle.index.specs.declared.said.Place.the-variants.{At, Nowhere}
 use Rattle.index.specs.Index.{perCut, mostOld}
 
 -- how many cuts there are, how many radials each has, and where each radial is
@@ -34,13 +38,29 @@ countsAt x = cond (isNew x) 3 1
 unfoldable pub radialsAt : List ℕ → ℕ
 radialsAt x = countsAt x + 2 * cutsSaid x
 
+abbrev pub placesAt : List ℕ → ℕ
+placesAt x = radialsAt x + 4
+
 unfoldable pub saidBy : List ℕ → Contents
 saidBy x =
     record {
       cuts = cutsSaid x;
       counts = items (le 2) 2 (cutsSaid x) x (countsAt x);
-      places = items (le 8) 8 (le 4 x (radialsAt x)) x (radialsAt x + 4);
+      places = items (le 8) 8 (le 4 x (radialsAt x)) x (placesAt x);
     }
+
+-- so, whichever form an index has, one radial's place stands here, by its sequence number from 1 (#109)
+abbrev pub placeAt : List ℕ → ℕ → ℕ
+placeAt x n = placesAt x + 8 * (n - 1)
+
+-- and so it says where that radial is, or that there is none
+unfoldable pub placeSaid : List ℕ → ℕ → Place
+placeSaid x n = cond (leb 1 n && leb n (le 4 x (radialsAt x))) (At (le 8 x (placeAt x n))) Nowhere
+
+-- what it is to say: where a radial that was found starts
+abbrev pub startOfFound : Found → Place
+startOfFound found.Nowhere = Nowhere
+startOfFound (found.There s) = At (s .start)
 
 -- what is to be said for a number of cuts and some radials, and so of a file ("The house index")
 abbrev pub contentsFor : ℕ → List Stretch → Contents

@@ -1,4 +1,4 @@
-// The house index of a file (document 01): written into a lent room, and told right or wrong for a file.
+// The house index of a file (document 01): written into a lent room, told right or wrong for a file, and read.
 ghost use mathlib.Core.Path.{_≡_};
 ghost use Rattle.index.specs.Answer.{Writes, rightFor};
 ghost use Rattle.index.specs.Making.{layoutFor, layoutOf};
@@ -8,6 +8,7 @@ use site::Site;
 use task::Task;
 
 mod making;
+pub mod said;
 
 pub enum Answer {
     // The index's length.

@@ -1,0 +1,5 @@
+pub mod Listed
+pub mod Led
+pub mod Filling
+pub mod Meaning
+pub mod Grown
