@@ -5,6 +5,7 @@ pub mod Hopes
 pub mod Imports
 pub mod Mends
 pub mod Picks
+pub mod Engine
 pub mod One
 pub mod States
 pub mod Wedges

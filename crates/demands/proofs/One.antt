@@ -1,9 +1,9 @@
 -- Demand 1: the refusals by computing the definitions on the case at hand, the rest by citing. Assumes nothing.
-use mathlib.Core.Bool.{Bool, true, false, cond}
+use mathlib.Core.Bool.{Bool, true, false, cond, _&&_}
 use mathlib.Core.List.{List}
-use mathlib.Core.Logic.{_↔_}
+use mathlib.Core.Logic.{_↔_, _⊎_, inl, inr}
 use mathlib.Core.Path.{_≡_, refl, sym, ap, _∙_}
-use Prim.Native.Nat.{ℕ, _+_, _≤_}
+use Prim.Native.Nat.{ℕ, _+_, _≤_, _<_}
 use native.Mathlib.Omega.{arith}
 use borrow.Author.Tests.{le-leb, le-ltb, lt-leb, lt-ltb, ltb-true, leb-false}
 use lib.Dec.{eqb, leb, ltb}
@@ -51,7 +51,7 @@ use Rattle.decoded.proofs.Exactly.{is-checked}
 use Rattle.decoded.proofs.Tellings.{told-check-one}
 use Rattle.index.specs.declared.Answer.{Answer}
 use Rattle.index.specs.declared.Answer.the-variants as index
-use Rattle.index.specs.Answer.{complete, toldIndex, answerOf, roomOf, Writes}
+use Rattle.index.specs.Answer.{complete, rightFor, toldIndex, answerOf, roomOf, Writes}
 use Rattle.index.specs.Index.{indexOf}
 use Rattle.index.proofs.Same.{told-once}
 use Rattle.writer.specs.declared.order.Answer as writer
@@ -70,7 +70,9 @@ use Rattle.mend.proofs.Tellings.{told-mended-one}
 use Rattle.pick.specs.declared.Picked.the-variants as picked
 use Rattle.pick.specs.Pick as pick
 use Rattle.pick.proofs.Tellings.{told-picked-one}
-use Rattle.demands.specs.One.{Ending, is-complete, is-open, is-refused, Questions, Row, Tallied, Indexed, MendRefused, PickRefused, WriterRefuses, Unchanged, Determined, DemandOne}
+use Rattle.engine.specs.Engine as engine
+use Rattle.engine.proofs.Tellings.{told-list-one, list-kept}
+use Rattle.demands.specs.One.{Ending, is-complete, is-open, is-refused, Questions, Row, Tallied, Indexed, MendRefused, PickRefused, ListRefused, WriterRefuses, Unchanged, Determined, DemandOne}
 
 -- ---- every file has an ending
 
@@ -167,6 +169,25 @@ picks f wanted room =
       pick-60 = λ c s e. rw (c, e);
       pick-33 = λ c e l. rw (c, e, lt-leb (length (pick.picked wanted f)) room l);
       written = λ c e l. rw (c, e, le-leb (length (pick.picked wanted f)) room l);
+    }
+
+-- either buffer too short
+no-rooms : (n : ℕ) (k : List ℕ) (h : List ℤ) → (length k < n) ⊎ (length h < n) → engine.rooms n k h ≡ false
+no-rooms n k h (inl l) = rw (lt-leb n (length k) l)
+no-rooms n k h (inr l) = rw (lt-leb n (length h) l) (neither (leb n (length k)))
+  where
+    neither : (b : Bool) → (b && false) ≡ false
+    neither true = refl
+    neither false = refl
+
+lists : (f x : List ℕ) (n : ℕ) (k : List ℕ) (h : List ℤ) → ListRefused f x n k h
+unfolding engine.answerOf rightFor
+lists f x n k h =
+    record {
+      list-59 = λ e. rw e;
+      not-complete = λ e. rw e;
+      list-33 = λ e l. rw (e, no-rooms n k h l);
+      filled = λ e a b. rw (e, le-leb n (length k) a, le-leb n (length h) b);
     }
 
 mends : (f : List ℕ) (room : ℕ) → Bytes f → MendRefused f room
@@ -304,6 +325,7 @@ unchanged =
           (ap (λ (o : Outcome). o .walk) r, ap (λ (o : Outcome). o .room) r);
       mended = mended-kept;
       picked = picked-kept;
+      listed = list-kept;
       block = λ n room at bs h. stored-no n room at bs (lt-leb (at + n) (length room) h);
     }
 
@@ -344,6 +366,7 @@ determined =
       index = λ f before a b x y p q. (told-once a b (p .answer ∙ sym (q .answer)), p .room ∙ sym (q .room));
       mended = λ f before a b x y p q. (told-mended-one a b (p .answer ∙ sym (q .answer)), p .room ∙ sym (q .room));
       picked = λ f wanted before a b x y p q. (told-picked-one a b (p .answer ∙ sym (q .answer)), p .room ∙ sym (q .room));
+      listed = λ f x qs k h a b k₁ k₂ h₁ h₂ p q. (told-list-one a b (p .answer ∙ sym (q .answer)), p .kinds ∙ sym (q .kinds), p .hundredths ∙ sym (q .hundredths));
       put = puts-same;
     }
 
@@ -357,6 +380,7 @@ demand-one =
       indexes = indexes;
       mends = mends;
       picks = picks;
+      lists = lists;
       writer = writer-refuses;
       unchanged = unchanged;
       determined = determined;

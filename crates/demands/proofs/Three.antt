@@ -6,6 +6,7 @@ use Rattle.citing.proofs.Grown.{cites-grow}
 use Rattle.mend.proofs.Growing.{mend-grows}
 use Rattle.mend.proofs.Handed.{handed-back}
 use Rattle.pick.proofs.Growing as pick
+use Rattle.engine.proofs.Grown.{engine-grows}
 use Rattle.demands.specs.Three.{DemandThree}
 
 pub demand-three : DemandThree
@@ -17,4 +18,5 @@ demand-three A C some =
       cites = cites-grow A C some;
       mends = λ bs. mend-grows A C some bs (handed-back A C bs);
       picks = pick.grows A C;
+      lists = engine-grows A C some;
     }

@@ -36,6 +36,7 @@ use Rattle.demands.proofs.Hopes.{hopes-hold}
 use Rattle.demands.proofs.Imports.{imports}
 use Rattle.demands.proofs.Mends.{mends}
 use Rattle.demands.proofs.Picks.{picks}
+use Rattle.demands.proofs.Engine.{by-index}
 use Rattle.demands.proofs.States.{state-rule}
 use Rattle.demands.proofs.Decoded.{decoded-rows}
 use Rattle.demands.proofs.Whys.{whys}
@@ -119,5 +120,6 @@ demand-two =
       imports = imports;
       mends = mends;
       picks = picks;
+      by-index = by-index;
       index = index-right;
     }

@@ -7,6 +7,7 @@ pub mod Whys
 pub mod Imports
 pub mod Mends
 pub mod Picks
+pub mod Engine
 pub mod One
 pub mod States
 pub mod Two

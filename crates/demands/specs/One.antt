@@ -4,7 +4,7 @@
 -- promise leaves a choice.
 use mathlib.Core.Bool.{true, false}
 use mathlib.Core.List.{List, [], _∷_}
-use mathlib.Core.Logic.{_↔_}
+use mathlib.Core.Logic.{_↔_, _⊎_}
 use mathlib.Core.Path.{_≡_}
 use Prim.Native.Nat.{ℕ, _+_, _≤_, _<_}
 use lib.IntN.{ℤ}
@@ -50,7 +50,7 @@ use Rattle.decoded.specs.declared.CheckAnswer.{CheckAnswer}
 use Rattle.decoded.specs.Decoded.{Checked, toldCheck, checkAsked}
 use Rattle.index.specs.declared.Answer.{Answer}
 use Rattle.index.specs.declared.Answer.the-variants as index
-use Rattle.index.specs.Answer.{complete, answerOf, Writes}
+use Rattle.index.specs.Answer.{complete, answerOf, rightFor, Writes}
 use Rattle.index.specs.Index.{indexOf}
 use Rattle.writer.specs.declared.order.Answer.the-variants.{Refused}
 use Rattle.writer.specs.declared.order.Put.{Put}
@@ -66,6 +66,9 @@ use Rattle.mend.specs.Mend as mend
 use Rattle.pick.specs.declared.Picked.{Picked}
 use Rattle.pick.specs.declared.Picked.the-variants as picked
 use Rattle.pick.specs.Pick as pick
+use Rattle.engine.specs.declared.ListAnswer.{ListAnswer}
+use Rattle.engine.specs.declared.ListAnswer.the-variants as listed
+use Rattle.engine.specs.Engine as engine
 
 -- a file is complete, open with the missing bytes, or refused with number and place
 pub data Ending (f : List ℕ) : Type 0 where
@@ -130,6 +133,14 @@ pub record PickRefused (f : List ℕ) (wanted room : ℕ) : Type 0 where
   pub written : complete f ≡ true → pick.emptyIn wanted f ≡ Nowhere → length (pick.picked wanted f) ≤ room
       → pick.answerOf wanted f room ≡ answered (length (pick.picked wanted f))
 
+-- a list of n questions is refused by 59 where the index is not right for the file, as none is for a file that is not complete, whatever the
+-- list and the buffers; then by 33 where either buffer is shorter than the list, both with place 0, and by nothing else
+pub record ListRefused (f x : List ℕ) (n : ℕ) (k : List ℕ) (h : List ℤ) : Type 0 where
+  pub list-59 : rightFor f x ≡ false → engine.answerOf f x n k h ≡ refused 59 0
+  pub not-complete : complete f ≡ false → engine.answerOf f x n k h ≡ refused 59 0
+  pub list-33 : rightFor f x ≡ true → (length k < n) ⊎ (length h < n) → engine.answerOf f x n k h ≡ refused 33 0
+  pub filled : rightFor f x ≡ true → n ≤ length k → n ≤ length h → engine.answerOf f x n k h ≡ answered n
+
 -- the writer refuses in this order: 37 with place 0, where state and room do not agree; 25 after the end; 34 for another kind
 -- of block; what the reader says of the block; 35 for data of another length; 33 for a room that ends too early
 pub record WriterRefuses (b : Block) (w : Walk) (room : List ℕ) : Type 0 where
@@ -144,8 +155,8 @@ pub record WriterRefuses (b : Block) (w : Walk) (room : List ℕ) : Type 0 where
   pub short-room : agrees w room ≡ true → isEnd (w .due) ≡ false → sameKind (w .due) (kindOf b) ≡ true
       → (m : Walk) → saysOf b room w ≡ step.Took m → fitsOf b w ≡ true → length room < w .at + lengthOf b → put b w room .answer ≡ Refused 33 (w .at)
 
--- after a refusal the writer's state and room, the buffers of a row, the tally record and the room of an index, of a mended or picked volume or of a
--- record are what they were; a decoded row is lent only to be read. An import that is refused leaves the room as it was, and the state
+-- after a refusal the writer's state and room, the buffers of a row and of a list of questions, the tally record and the room of an index, of a
+-- mended or picked volume or of a record are what they were; a decoded row and an index are lent only to be read. An import that is refused leaves the room as it was, and the state
 -- that it tells has begun no volume
 pub record Unchanged : Type 0 where
   pub put : (b : Block) (w : Walk) (room : List ℕ) (n p : ℕ) → put b w room .answer ≡ Refused n p → (put b w room .walk ≡ w) × (put b w room .room ≡ room)
@@ -158,11 +169,12 @@ pub record Unchanged : Type 0 where
       → (importOf g s t c f room .walk ≡ atStart) × (importOf g s t c f room .room ≡ room)
   pub mended : (f before after : List ℕ) (n : ℕ) → mend.Mends f before (mended.Refused n) after → after ≡ before
   pub picked : (f : List ℕ) (wanted : ℕ) (before after : List ℕ) (n p : ℕ) → pick.Picks f wanted before (picked.Refused n p) after → after ≡ before
+  pub listed : (f x : List ℕ) (qs : List engine.Question) (k k′ : List ℕ) (h h′ : List ℤ) (n : ℕ) → engine.Answers f x qs k h (listed.Refused n) k′ h′ → (k′ ≡ k) × (h′ ≡ h)
   pub block : (n : ℕ) (room : List ℕ) (at : ℕ) (bs : List ℕ) → length room < at + n → stored n room at bs ≡ room
 
 -- two results that keep one promise are the same: those of reading, of a gate, of what is told of it and of its answer, of
--- a row with its buffers, of codes and of a file, of a decoded row, of a tally, of an index, of a mended and of a picked volume and of a put or an
--- import with its room; every other promise is an equation
+-- a row with its buffers, of codes and of a file, of a decoded row, of a tally, of an index, of a mended and of a picked volume, of a list of
+-- questions with its buffers and of a put or an import with its room; every other promise is an equation
 pub record Determined : Type 0 where
   pub verdict : (a b : Verdict) → verdictTold a ≡ verdictTold b → a ≡ b
   pub reading : (f : List ℕ) (a b : Reading) → Tells f a → Tells f b → a ≡ b
@@ -178,6 +190,8 @@ pub record Determined : Type 0 where
   pub index : (f before : List ℕ) (a b : Answer) (x y : List ℕ) → Writes f before a x → Writes f before b y → (a ≡ b) × (x ≡ y)
   pub mended : (f before : List ℕ) (a b : Mended) (x y : List ℕ) → mend.Mends f before a x → mend.Mends f before b y → (a ≡ b) × (x ≡ y)
   pub picked : (f : List ℕ) (wanted : ℕ) (before : List ℕ) (a b : Picked) (x y : List ℕ) → pick.Picks f wanted before a x → pick.Picks f wanted before b y → (a ≡ b) × (x ≡ y)
+  pub listed : (f x : List ℕ) (qs : List engine.Question) (k : List ℕ) (h : List ℤ) (a b : ListAnswer) (k₁ k₂ : List ℕ) (h₁ h₂ : List ℤ)
+      → engine.Answers f x qs k h a k₁ h₁ → engine.Answers f x qs k h b k₂ h₂ → (a ≡ b) × (k₁ ≡ k₂) × (h₁ ≡ h₂)
   pub put : (o : Outcome) (p q : Put) (held other : List ℕ) → Puts o p held → Puts o q other → (p ≡ q) × (held ≡ other)
 
 pub record DemandOne : Type 0 where
@@ -188,6 +202,7 @@ pub record DemandOne : Type 0 where
   pub indexes : (f : List ℕ) (room : ℕ) → Indexed f room
   pub mends : (f : List ℕ) (room : ℕ) → Bytes f → MendRefused f room
   pub picks : (f : List ℕ) (wanted room : ℕ) → PickRefused f wanted room
+  pub lists : (f x : List ℕ) (n : ℕ) (k : List ℕ) (h : List ℤ) → ListRefused f x n k h
   pub writer : (b : Block) (w : Walk) (room : List ℕ) → WriterRefuses b w room
   pub unchanged : Unchanged
   pub determined : Determined

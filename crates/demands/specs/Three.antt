@@ -10,6 +10,7 @@ use Rattle.decoded.specs.Growth.{ChecksGrow}
 use Rattle.citing.specs.Growth.{CitesGrow}
 use Rattle.mend.specs.Growth.{MendGrows}
 use Rattle.pick.specs.Growth.{PickGrows}
+use Rattle.engine.specs.Growth.{EngineGrows}
 
 pub record Growth (A C : List ℕ) : Type 0 where
   -- radials and verdicts: the whole radials of A begin those of B, with the same bytes; refused stays refused, complete
@@ -27,6 +28,9 @@ pub record Growth (A C : List ℕ) : Type 0 where
   -- the radials of A are picked from B as from A, and the first of them that would have no moment left is still the first; what follows a
   -- complete or a refused A is refused by 36
   pub picks : PickGrows A C
+  -- an index that is right for B leads to the radials of A where they are in A, and a list is told the same of them; no index is right for
+  -- what follows a complete or a refused A
+  pub lists : EngineGrows A C
 
 abbrev pub DemandThree : Type 0
 DemandThree = (A C : List ℕ) → 0 < length C → Growth A C

@@ -57,6 +57,7 @@ use Rattle.demands.specs.Hopes.{Hopes}
 use Rattle.demands.specs.Imports.{Imports}
 use Rattle.demands.specs.Mends.{Mends}
 use Rattle.demands.specs.Picks.{Picks}
+use Rattle.demands.specs.Engine.{ByIndex}
 use Rattle.demands.specs.States.{StateRule}
 use Rattle.demands.specs.Wedges.{Wedges}
 
@@ -183,4 +184,6 @@ pub record DemandTwo : Type 0 where
   pub mends : Mends
   -- what a volume with the wanted moments only is, and what is answered of it (`Picks`)
   pub picks : Picks
+  -- what is answered of a whole list of questions, by an index in either form (`Engine`)
+  pub by-index : ByIndex
   pub index : IndexRight

@@ -3,3 +3,4 @@ pub mod Led
 pub mod Filling
 pub mod Meaning
 pub mod Grown
+pub mod Tellings
