@@ -1,38 +1,31 @@
 -- Up to 256 cuts, by citing the rules, the grammar of volumes and the index. Assumes nothing.
 use Prim.Native.Nat.{ℕ, _+_, _<_, _≤_}
 use native.Mathlib.Omega.{arith}
-use mathlib.Core.List.{List, [], _∷_, append-nil, map}
+use mathlib.Core.List.{List, [], _∷_, map}
 use mathlib.Core.Logic.{dite}
-use mathlib.Core.Path.{_≡_, refl, sym, ap, ap₂, subst, _∙_}
+use mathlib.Core.Path.{_≡_, refl, sym, ap, ap₂, _∙_}
 use native.Mathlib.Decide.{decLt}
 use borrow.Author.Tests.{lt-ltb, le-ltb, ne-eqb}
 use lib.Dec.{lit<, ltb}
 use lib.ListN.{length}
 use Rattle.le.specs.Le.{int}
-use Rattle.le.proofs.Laws.{le-part}
 use Rattle.le.proofs.Tests.{fails}
 use Rattle.rules.specs.Ranges.{is, counts, mostSequence}
 use Rattle.rules.proofs.Allowed.{count-allowed}
 use Rattle.rules.proofs.Numbers.{counts-within}
-use Rattle.task.specs.declared.Task.{Task}
-use Rattle.task.specs.Task.{taskAt, taskOf}
 use Rattle.reading.specs.declared.Stretch.{Stretch}
 use Rattle.reading.specs.Reading.{told, stop, stretches}
 use Rattle.volume.specs.Accepted.{Begun, BegunOk, dueRadial}
-use Rattle.volume.specs.Meaning.{volumeStretches, Holds}
+use Rattle.volume.specs.Meaning.{volumeStretches}
 use Rattle.volume.specs.Volume.{Volume, IsVolume, bytesOfVolume}
-use Rattle.hope.proofs.Meaning.{means}
-use Rattle.volume.proofs.Placed.{front}
 use Rattle.volume.proofs.Sense.{sense}
-use Rattle.volume.proofs.Tells.{same-number}
 use Rattle.index.specs.Answer.{rightFor}
-use Rattle.index.specs.Forms.{Fit, oldCuts, isNew, saidBy, contentsFor, contentsOf}
+use Rattle.index.specs.Forms.{oldCuts, isNew, saidBy, contentsFor, contentsOf}
 use Rattle.index.specs.Index.{indexOf, oldIndexOf, newIndexOf}
 use Rattle.index.proofs.Contents.{counts-of}
 use Rattle.index.proofs.Forms.{first-old, first-new, few-cuts, many-cuts, other-form}
 use Rattle.index.proofs.Says.{Of, of-volume, of-file, fits, says}
 use Rattle.index.proofs.Same.{right-only, right-when}
-use Rattle.index.proofs.Walked.{cuts-read}
 use Rattle.demands.specs.Cuts.{Whole, cutsOf, Forms, contentsOfVolume, Cuts}
 
 -- ---- the index of a complete file

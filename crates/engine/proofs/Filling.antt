@@ -2,9 +2,9 @@
 use Prim.Native.Nat.{ℕ, _+_, _%_, _≤_, _<_}
 use native.Mathlib.Nat.{mod-eq-of-lt}
 use native.Mathlib.Omega.{arith}
-use mathlib.Core.Bool.{Bool, true, false, _&&_}
+use mathlib.Core.Bool.{Bool, true, false}
 use mathlib.Core.List.{List}
-use mathlib.Core.Path.{_≡_, refl, sym, ap, _∙_}
+use mathlib.Core.Path.{_≡_, refl}
 use borrow.Author.Tests.{le-leb, lt-leb}
 use lib.Dec.{ltb, lit<}
 use lib.IntN.{ℤ}
@@ -13,7 +13,7 @@ use Rattle.moment.specs.declared.Moment.{Moment}
 use Rattle.gates.specs.Codes.{codesOf}
 use Rattle.gates.specs.Gates.{Values, toldOf, valuesOf}
 use Rattle.gates.specs.Rows.{filled}
-use Rattle.gates.specs.Telling.{Telling, refused, answered}
+use Rattle.gates.specs.Telling.{Telling}
 use Rattle.gates.proofs.Gates.{kind-lt}
 use Rattle.gates.proofs.Rows.{Partly, fill-none, fill-turn, fill-all}
 use Rattle.ask.specs.declared.places.Where.{Where}

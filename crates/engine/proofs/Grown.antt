@@ -1,10 +1,8 @@
 -- Growth of answers by the index: the statement of specs/Growth, by citing that of reading and of the questions. Assumes nothing.
 use Prim.Native.Nat.{ℕ, _<_}
-use native.Mathlib.Omega.{arith}
 use mathlib.Core.Bool.{false}
 use mathlib.Core.List.{List, [], _∷_, _++_}
-use mathlib.Core.Path.{_≡_, sym, ap, subst, _∙_}
-use lib.IntN.{ℤ}
+use mathlib.Core.Path.{_≡_, ap, subst, _∙_}
 use lib.ListN.{length}
 use Rattle.gates.specs.Gates.{Values}
 use Rattle.gates.specs.Telling.{Telling}

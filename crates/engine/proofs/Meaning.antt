@@ -1,11 +1,11 @@
 -- What is answered of a list, question by question: the statements of specs/Meaning. Assumes nothing.
-use Prim.Native.Nat.{ℕ, _≤_, _<_, min}
+use Prim.Native.Nat.{ℕ, _<_, min}
 use native.Mathlib.Omega.{arith}
-use native.Mathlib.Decide.{decLt, decLe}
-use mathlib.Core.Bool.{Bool, true, false, _&&_}
-use mathlib.Core.List.{List, _++_}
+use native.Mathlib.Decide.{decLe}
+use mathlib.Core.Bool.{Bool, true, false}
+use mathlib.Core.List.{List}
 use mathlib.Core.Logic.{_⊎_, inl, inr, dite}
-use mathlib.Core.Path.{_≡_, refl, sym, ap, subst, _∙_}
+use mathlib.Core.Path.{_≡_, refl, sym, ap, _∙_}
 use lib.IntN.{ℤ, pos}
 use lib.ListN.{length, getD, drop, length-map}
 use lib.Seq.{drop-at}
@@ -14,12 +14,10 @@ use Rattle.gates.specs.Rows.{filled}
 use Rattle.gates.specs.Telling.{Telling, refused, answered}
 use Rattle.gates.proofs.Rows.{at-filled}
 use Rattle.ask.specs.Growth.{gateAsked}
-use Rattle.ask.specs.Shown as row
 use Rattle.index.specs.Answer.{rightFor}
 use Rattle.engine.specs.declared.ListAnswer.{ListAnswer}
-use Rattle.engine.specs.declared.ListAnswer.the-variants.{Filled, Refused}
 use Rattle.engine.specs.Engine.{Question, asked, walked, kindShown, hundredthsShown, kindsOf, hundredthsOf, toldList, answerOf, bufferOf, rooms, Answers}
-use Rattle.engine.specs.Meaning.{Stands, its-own, no-radial, no-moment, no-gate, AllStand, EachStands, AsInRow}
+use Rattle.engine.specs.Meaning.{Stands, its-own, no-radial, no-moment, no-gate, EachStands, AsInRow}
 use Rattle.engine.proofs.Filling.{stands-asked}
 use Rattle.engine.proofs.Listed.{many-asked, at-asked, noQuestion, questionAt}
 

@@ -13,7 +13,7 @@ use borrow.Author.Tests.{le-leb, lt-leb}
 use Rattle.gates.specs.declared.Coding.{Coding}
 use Rattle.gates.specs.declared.RowAnswer.{RowAnswer}
 use Rattle.gates.specs.declared.RowAnswer.the-variants.{Filled, Refused}
-use Rattle.gates.specs.Gates.{gateOf, kindOf, toldOf}
+use Rattle.gates.specs.Gates.{kindOf}
 use Rattle.gates.specs.Rows.{toldRow, shownOf, rowKinds, rowHundredths, rooms, filled, Rowed}
 use Rattle.gates.specs.Telling.{refused, answered}
 use Rattle.gates.proofs.Tellings.{told-row-one}

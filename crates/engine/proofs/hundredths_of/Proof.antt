@@ -1,4 +1,3 @@
-use mathlib.Core.Path.{sym, ap, _∙_}
 use borrow.Author.Needs.{needs, sfits-of}
 use mir.Facts.{toZ-ofZ}
 use Rattle.engine.specs.Engine.{hundredthsShown}
