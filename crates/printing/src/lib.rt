@@ -95,10 +95,11 @@ pub fn print_verdict(v: Verdict) {
     bare_verdict(v);
 }
 
-fn mixed(sum: u32, byte: u8) -> u32
-    ensures { λ r. ⌜ r ≡ mixedOf sum byte ⌝ }
+// A sum with one entry more.
+pub fn mixed(sum: u32, entry: u32) -> u32
+    ensures { λ r. ⌜ r ≡ mixedOf sum entry ⌝ }
 {
-    ((31 * (sum as u64) + (byte as u64)) % 0x1_0000_0000) as u32
+    ((31 * (sum as u64) + (entry as u64)) % 0x1_0000_0000) as u32
 }
 
 // The bytes of a room in one number, which a change of any one byte changes.
@@ -108,7 +109,7 @@ pub fn sum(s: &[u8]) -> u32
     let mut n = 0;
     let mut i = 0;
     while i < s.len() {
-        n = mixed(n, s[i]);
+        n = mixed(n, s[i] as u32);
         i += 1;
     }
     n

@@ -42,4 +42,4 @@ sum-spec =
     (tie.spec
     Inv-loop
     μ-loop
-    (λ c. (omega arith, refl)) (λ c. search needs) (λ c κs. search needs) (λ c. search needs) (λ c. search needs) loop-again returns)
+    (λ c. (omega arith, refl)) (λ c. search needs) (λ c. omega (arith, c .shared-slice-known2 .given (c .before .before .loop .i))) (λ c κs. search needs) (λ c. search needs) (λ c. search needs) loop-again returns)
