@@ -1,6 +1,6 @@
 // What is answered of a radial, a moment, a gate and a row.
 ghost use mathlib.Core.Path.{_≡_};
-ghost use Rattle.ask.specs.Places.{whereIs, inFound};
+ghost use Rattle.ask.specs.Places.{whereIs, momentIn};
 ghost use Rattle.ask.specs.Answers.{radialOfFile, momentTold, dataTold, codingOf, toldGateAnswer, gateIn, gateTold, RowTold};
 use crate::places;
 use crate::places::Where;
@@ -10,6 +10,7 @@ use gates::Told;
 use moment::Moment;
 use radial::Radial;
 use reading::Found;
+use reading::Stretch;
 
 // 0, or the refusal's number; the radial's place, and its header.
 pub struct RadialAnswer {
@@ -100,13 +101,10 @@ pub(crate) fn gate_in(h: Moment, bytes: &[u8], i: usize) -> GateAnswer
     GateAnswer::Refused(32)
 }
 
-// A gate of the moment of a type in the radial that was found, from 0.
-pub fn gate_of(file: &[u8], found: Found, t: u32, i: usize) -> GateAnswer
-    ensures { λ r. ⌜ toldGateAnswer r ≡ gateTold (now (file .entry)) (inFound (now (file .entry)) found t) i ⌝ }
+// A gate of the moment of a type in a radial that was found, from 0.
+pub fn gate_at(file: &[u8], s: Stretch, t: u32, i: usize) -> GateAnswer
+    ensures { λ r. ⌜ toldGateAnswer r ≡ gateTold (now (file .entry)) (momentIn (now (file .entry)) t s) i ⌝ }
 {
-    let Found::There(s) = found else {
-        return GateAnswer::Refused(30);
-    };
     let b = reading::own(file, s);
     match moments::find(b, t) {
         moments::Found::At(p) => gate_in(Moment::read(b, p), moments::data(b, p), i),
@@ -118,7 +116,10 @@ pub fn gate_of(file: &[u8], found: Found, t: u32, i: usize) -> GateAnswer
 pub fn gate(file: &[u8], sequence: usize, t: u32, i: usize) -> GateAnswer
     ensures { λ r. ⌜ toldGateAnswer r ≡ gateTold (now (file .entry)) (whereIs (now (file .entry)) sequence t) i ⌝ }
 {
-    gate_of(file, reading::find(file, sequence), t, i)
+    match reading::find(file, sequence) {
+        Found::There(s) => gate_at(file, s, t, i),
+        Found::Nowhere => GateAnswer::Refused(30),
+    }
 }
 
 // The kinds and hundredths of all gates of the moment of a type.

@@ -7,6 +7,7 @@ ghost use lib.ListN.{length};
 ghost use Rattle.gates.specs.Rows.{filled};
 ghost use Rattle.reading.specs.Reading.{stretches, nth};
 ghost use Rattle.ask.specs.Answers.{toldGateAnswer};
+ghost use Rattle.ask.specs.Growth.{gateAsked};
 ghost use Rattle.index.specs.Answer.{rightFor};
 ghost use Rattle.engine.specs.Engine.{asked, kindShown, hundredthsShown, kindsOf, hundredthsOf, Answers};
 use ask::answers;
@@ -39,6 +40,17 @@ fn find(file: &[u8], index: &[u8], sequence: usize) -> Found
             })
         }
         Place::Nowhere => Found::Nowhere,
+    }
+}
+
+// A gate, as the plain walk answers it.
+fn gate(file: &[u8], index: &[u8], sequence: usize, t: u32, i: usize) -> GateAnswer
+    requires { ⌜ rightFor (now file) (now index) ≡ true ⌝ }
+    ensures { λ r. ⌜ toldGateAnswer r ≡ gateAsked (now (file .entry)) sequence t i ⌝ }
+{
+    match find(file, index, sequence) {
+        Found::There(s) => answers::gate_at(file, s, t, i),
+        Found::Nowhere => GateAnswer::Refused(30),
     }
 }
 
@@ -98,8 +110,7 @@ fn fill(
 {
     let mut i = 0;
     while i < n {
-        let found = find(file, index, radials[i]);
-        let answer = answers::gate_of(file, found, types[i], gates[i]);
+        let answer = gate(file, index, radials[i], types[i], gates[i]);
         kinds[i] = kind(answer);
         hundredths[i] = hundredths_of(answer);
         i += 1;

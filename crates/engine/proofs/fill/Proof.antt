@@ -6,12 +6,9 @@ use borrow.Author.Needs.{needs, sfits-of}
 use mir.Facts.{toZ-ofZ}
 use Rattle.gates.specs.Gates.{Values}
 use Rattle.gates.specs.Telling.{Telling}
-use Rattle.reading.specs.declared.Found.{Found}
-use Rattle.ask.specs.Answers.{gateTold}
-use Rattle.ask.specs.Places.{inFound}
 use Rattle.engine.specs.Engine.{Question, asked, walked, kindShown, hundredthsShown}
 use Rattle.engine.proofs.Filling.{Begun, begun-none, begun-turn, begun-all, kind-fits}
-use Rattle.engine.proofs.Listed.{questionAt, many-asked, at-asked}
+use Rattle.engine.proofs.Listed.{many-asked, at-asked}
 use Rattle.engine.proofs.fill.Statement.{statement}
 use Rattle.engine.proofs.fill.Tie as tie
 
@@ -28,7 +25,7 @@ loop-holds c =
 
 loop-again : tie.Need-loop-again Inv-loop μ-loop
 loop-again c =
-    let o = c .before .before .before .before .before .before .before .before in
+    let o = c .before .before .before .before .before .before .before in
     let s = o .before .before .before .before .before .before .before in
     let a = s .args in
     let f = a .file .now in
@@ -36,8 +33,7 @@ loop-again c =
     let many = many-asked (a .radials .now) (a .types .now) (a .gates .now) in
     let n = s .pre .1 .0 in
     let one = at-asked (a .radials .now) (a .types .now) (a .gates .now) (o .loop .i) (omega arith) in
-    let q = questionAt (a .radials .now) (a .types .now) (a .gates .now) (o .loop .i) in
-    let told = c .before .before .gate-of .ensures ∙ ap (λ (w : Found). gateTold f (inFound f w (q .«data_type»)) (q .gate)) (c .before .before .before .before .before .find .ensures) in (
+    let told = c .before .before .gate .ensures in (
       omega arith,
       begun-turn f qs (a .kinds .now) (a .hundredths .now) _ _ (o .loop .inv .1) (omega arith) (omega arith) (omega arith)
           (c .before .kind .ensures ∙ ap (λ (y : Telling Values). kindShown y % 256) told ∙ kind-fits f _ _ _ ∙ ap (λ (q : Question). kindShown (walked f q)) (sym one))
@@ -61,7 +57,6 @@ fill-spec =
     loop-holds
     (λ c. omega arith)
     (λ c. omega (arith, c .before .before .before .before .before .before .before .before .before .pre))
-    (λ c κs. search needs)
     (λ c. omega arith)
     (λ c. omega arith)
     (λ c. omega arith)
