@@ -101,7 +101,8 @@ pub(crate) fn gate_in(h: Moment, bytes: &[u8], i: usize) -> GateAnswer
     GateAnswer::Refused(32)
 }
 
-// A gate of the moment of a type in a radial that was found, from 0.
+// A gate of the moment of a type in a radial that was found, from 0. A list of questions is its one caller, so that it is inlined
+// there, without the quotient that a list does not show; `gate` goes the way of the other questions.
 pub fn gate_at(file: &[u8], s: Stretch, t: u32, i: usize) -> GateAnswer
     ensures { λ r. ⌜ toldGateAnswer r ≡ gateTold (now (file .entry)) (momentIn (now (file .entry)) t s) i ⌝ }
 {
@@ -116,9 +117,13 @@ pub fn gate_at(file: &[u8], s: Stretch, t: u32, i: usize) -> GateAnswer
 pub fn gate(file: &[u8], sequence: usize, t: u32, i: usize) -> GateAnswer
     ensures { λ r. ⌜ toldGateAnswer r ≡ gateTold (now (file .entry)) (whereIs (now (file .entry)) sequence t) i ⌝ }
 {
-    match reading::find(file, sequence) {
-        Found::There(s) => gate_at(file, s, t, i),
-        Found::Nowhere => GateAnswer::Refused(30),
+    match places::find(file, sequence, t) {
+        Where::At(s, p) => {
+            let b = reading::own(file, s);
+            gate_in(Moment::read(b, p), moments::data(b, p), i)
+        }
+        Where::NoRadial => GateAnswer::Refused(30),
+        Where::NoMoment => GateAnswer::Refused(31),
     }
 }
 

@@ -1,11 +1,11 @@
 -- Where a right index leads: the radial that stands there is the one the plain walk finds, since its header says its end and its cut.
 -- Assumes nothing.
-use Prim.Native.Nat.{ℕ, _+_, _≤_}
+use Prim.Native.Nat.{ℕ, _+_, _-_, _≤_}
 use native.Mathlib.Omega.{arith}
 use mathlib.Core.Bool.{true}
 use mathlib.Core.List.{List}
 use mathlib.Core.Path.{_≡_, refl, sym, ap, ap₂, _∙_}
-use lib.ListN.{length}
+use lib.ListN.{length, take, drop}
 use Rattle.le.specs.Le.{Bytes}
 use Rattle.radial.specs.Radial.{radialAt}
 use Rattle.reading.specs.declared.Found.{Found}
@@ -15,6 +15,7 @@ use Rattle.reading.specs.Reading.{stretches, nth}
 use Rattle.reading.specs.Tiling.{WholeRadial, AllWhole}
 use Rattle.reading.proofs.Radials.{said, all-whole}
 use Rattle.ask.proofs.Growing.{nth-of, nth-placed}
+use Rattle.ask.proofs.Sounding.{own-radial}
 use Rattle.index.specs.declared.said.Place.the-variants.{At, Nowhere}
 use Rattle.index.specs.Answer.{rightFor}
 use Rattle.index.specs.Forms.{placeSaid, startOfFound}
@@ -33,6 +34,8 @@ module _ (f x : List ℕ) (bs : Bytes f) (right : rightFor f x ≡ true) (n : �
   pub record LedTo (at : ℕ) : Type 0 where
     pub is : nth (stretches f) n ≡ found.There (stretchAt f at)
     pub within : at + 64 + radialAt f at .«length_of_data» ≤ length f
+    -- its header, read from its own bytes
+    pub header : radialAt (take (at + 64 - at) (drop at f)) 0 ≡ radialAt f at
 
   pub led : (at : ℕ) → placeSaid x n ≡ At at → LedTo at
   led at e = go (nth (stretches f) n) refl (sym (leads f x bs right n) ∙ e)
@@ -44,7 +47,11 @@ module _ (f x : List ℕ) (bs : Bytes f) (right : rightFor f x ≡ true) (n : �
           let own : s ≡ stretchAt f at = its-stretch f n s q ∙ ap (stretchAt f) start in
           let end = ap (λ (s : Stretch). s .end) own in
           let p = nth-placed f n s q .within in
-          record { is = q ∙ ap found.There own; within = omega arith }
+          record {
+            is = q ∙ ap found.There own;
+            within = omega arith;
+            header = own-radial f (record { start = at; end = at + 64; cut = 0 }) (record { header = omega arith; within = omega arith });
+          }
 
   pub led-nowhere : placeSaid x n ≡ Nowhere → nth (stretches f) n ≡ found.Nowhere
   led-nowhere e = go (nth (stretches f) n) refl (sym (leads f x bs right n) ∙ e)

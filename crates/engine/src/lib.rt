@@ -25,17 +25,19 @@ pub enum ListAnswer {
     Refused(u32),
 }
 
-// The whole radial with a sequence number, from 1: it starts where the index says, and its own header says where it ends.
+// The whole radial with a sequence number, from 1: it starts where the index says, and its own header says where it ends. The
+// header is read from its own bytes: how many there are is then known, so that the compiler copies none of them.
 fn find(file: &[u8], index: &[u8], sequence: usize) -> Found
     requires { ⌜ rightFor (now file) (now index) ≡ true ⌝ }
     ensures { λ r. ⌜ r ≡ nth (stretches (now (file .entry))) sequence ⌝ }
 {
     match said::find(index, sequence) {
         Place::At(start) => {
-            let header = Radial::read(file, start);
+            let data = start + Radial::SIZE;
+            let header = Radial::read(&file[start..data], 0);
             Found::There(Stretch {
                 start,
-                end: start + Radial::SIZE + (header.length_of_data as usize),
+                end: data + (header.length_of_data as usize),
                 cut: header.elevation_number,
             })
         }
