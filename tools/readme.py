@@ -5,14 +5,15 @@
 
 Each indented block of README.md has to stand whole in a source, or line for line, in order, in a program's
 stored output, among the verdicts that the reference reader gives of the samples, in the listing of the old
-shelf as the reference imports it, or in what it tells of a sample that it picks from; but for the block of
-commands, which starts with `./knot`.
+shelf as the reference imports it, in what it tells of a sample that it picks from, or in its answers to the
+questions on a sample by an index; but for the block of commands, which starts with `./knot`.
 """
 import glob
 import re
 import sys
 
 sys.dont_write_bytecode = True
+import asking
 import importing
 import picking
 import reference as ref
@@ -52,6 +53,18 @@ def picked(t):
     return ref.listing(told).splitlines() if isinstance(told, bytes) else picking.refusal_words(told)
 
 
+def asked(index):
+    """The table of what an index gives for the questions on the sample, or why there is none."""
+    questions = asking.questions_of('samples/questions.txt')
+    lists = [[question[part] for question in questions] for part in range(3)]
+    room = [0] * len(questions)
+    told, kinds, hundredths = asking.answers(sample('rhi2.vol'), index, *lists, room, room)
+    if told != len(questions):
+        return asking.refusal_words(told)
+    rows = [asking.COLUMNS, *((*question, kind, h) for question, kind, h in zip(questions, kinds, hundredths))]
+    return ['\t'.join(map(str, row)) for row in rows]
+
+
 def main():
     def read(path, errors='strict'):
         with open(path, encoding='utf-8', errors=errors) as file:
@@ -61,7 +74,7 @@ def main():
     outputs = [read(path, 'replace').splitlines() for path in glob.glob('crates/*/stdout')]     # one has a volume's bytes
     outputs.append([verdict(name) for name in ('short', 'cloud', 'layers')])
     outputs.append(shelf())
-    outputs += [picked(2), picked(4)]
+    outputs += [picked(2), picked(4), asked(ref.index(sample('rhi2.vol'))), asked(b'')]
     strange = [block for block in blocks(read('README.md')) if not block.startswith('./knot')
                and not any(block in source for source in sources)
                and not any(in_order(block, lines) for lines in outputs)]

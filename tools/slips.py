@@ -150,6 +150,232 @@ OR_NONE = '''  or-none : (x : Found) → orElse x Nowhere ≡ x
 
 '''
 
+ENGINE, ENGINE_CODE = 'crates/engine/specs/Engine.antt', 'crates/engine/src/lib.rt'
+FILLING, MEANING, KIND, HUNDREDTHS, LIST_ANSWER = (
+    f'crates/engine/proofs/{path}.antt' for path in ('Filling', 'Meaning', 'kind/Proof', 'hundredths_of/Proof', 'answer/Proof'))
+FORMS, SAID, SAID_BACK, SAYS, FIND, RADIALS_AT = (
+    f'crates/index/{path}' for path in ('specs/Forms.antt', 'src/said.rt', 'proofs/Forms.antt', 'proofs/Says.antt', 'proofs/said/find/Proof.antt',
+                                        'proofs/said/radials_at/Proof.antt'))
+BELOW = '''below : {a : Telling Values} {k : ℕ} {h : ℤ} → Stands a k h → k < 256
+below (its-own l) = omega arith
+below no-radial = lit< tt
+below no-moment = lit< tt
+below no-gate = lit< tt
+'''
+BELOW_BY_ITSELF = '''module _ (h : Moment) (bytes : List ℕ) (i : ℕ) where
+  below-in : kindShown (gateIn h bytes i) < 256
+  unfolding gateIn kindShown
+  below-in = go (ltb i (length (codesOf (h .«bin_length») bytes))) refl
+    where
+      go : (b : Bool) → ltb i (length (codesOf (h .«bin_length») bytes)) ≡ b → kindShown (gateIn h bytes i) < 256
+      go true q = let k = kind-lt (toldOf (codingOf h) (getD (codesOf (h .«bin_length») bytes) i 0) .gate) in rw q (omega arith)
+      go false q = rw q (lit< tt)
+
+below : (f : List ℕ) (w : Where) (i : ℕ) → kindShown (gateTold f w i) < 256
+unfolding gateTold kindShown
+below f NoRadial i = lit< tt
+below f NoMoment i = lit< tt
+below f (At s p) i = below-in _ _ i
+'''
+RADIALS_NEW = '''-- the new form
+returns : tie.Need-returns
+unfolding radialsAt cutsSaid countsAt
+returns c =
+    let x = c .before .before .before .before .args .index .now in
+    let e = eq-eqb (oldCuts x) 0 (sym (c .before .before .old-cuts .ensures) ∙ c .before .if1 .taken) in
+    (rw (e, ← c .u16-at .ensures), omega arith)
+
+'''
+RADIALS_OLD = '''returns-2 : tie.Need-returns-2
+unfolding radialsAt cutsSaid countsAt
+returns-2 c =
+    let x = c .before .before .before .args .index .now in
+    let e = ne-eqb (oldCuts x) 0 (λ z. c .if1 .left (c .before .old-cuts .ensures ∙ z)) in
+    (rw (e, ← c .before .old-cuts .ensures), omega arith)
+
+pub radials-at-spec : {M : Type 1} → statement M
+radials-at-spec =
+    tie.close
+    (tie.spec (λ c κs. search needs) (λ c κs. search needs) (λ c. search needs) (λ c. search needs) (λ c. search needs) returns (λ c. search needs) (λ c. search needs) (λ c. search needs) returns-2)
+'''
+RADIALS_OLD_ALONE = '''returns : tie.Need-returns
+unfolding radialsAt
+returns c = (rw (← c .old-cuts .ensures), omega arith)
+
+pub radials-at-spec : {M : Type 1} → statement M
+radials-at-spec = tie.close (tie.spec (λ c κs. search needs) (λ c. search needs) (λ c. search needs) (λ c. search needs) returns)
+'''
+INDEX_FIRST = '    if !index::right(file, index) {\n        return ListAnswer::Refused(59);\n    }\n'
+NEITHER = '''  neither : (b : Bool) → (b && false) ≡ false
+  neither true = refl
+  neither false = refl
+
+'''
+LIST_59 = '''    go false q b s =
+        let here : answered m ≡ refused 59 0 = sym e ∙ rw q at (p .answer) in
+        absurd (let z : _≡_ {A = ℕ} 0 1 = cc in omega arith)
+'''
+LIST_59_LAST = '''    go false q true s =
+        let here : answered m ≡ refused 59 0 = sym e ∙ rw (q, s) at (p .answer) in
+        absurd (let z : _≡_ {A = ℕ} 0 1 = cc in omega arith)
+    go false q false s =
+        let here : answered m ≡ refused 33 0 = sym e ∙ rw (q, s) at (p .answer) in
+        absurd (let z : _≡_ {A = ℕ} 0 1 = cc in omega arith)
+'''
+RIGHT_FIRST = '''returns : tie.Need-returns
+returns c = not-right _ _ _ _ _ (sym (c .before .right .ensures) ∙ not-true (c .before .right .result) (c .if1 .taken))
+
+-- the index is right, and how many questions there are
+right : (c : tie.After-shortest) → let a = c .before .before .before .before .before .before .before .before .before .args in rightFor (a .file .now) (a .index .now) ≡ true
+right c = sym (c .before .before .right .ensures) ∙ not-false (c .before .before .right .result) (c .before .if1 .left)
+
+many : (c : tie.After-shortest) → let a = c .before .before .before .before .before .before .before .before .before .args in c .shortest .result ≡ length (asked (a .radials .now) (a .types .now) (a .gates .now))
+many c = c .shortest .ensures ∙ sym (many-asked _ _ _)
+
+returns-2 : tie.Need-returns-2
+returns-2 c = let n = many (c .before) in let h = c .if2 .taken in short-kinds _ _ _ _ _ (right (c .before)) (omega arith)
+
+returns-3 : tie.Need-returns-3
+returns-3 c = let n = many (c .before .before) in let l = c .before .if2 .left in let h = c .if3 .taken in short-hundredths _ _ _ _ _ (right (c .before .before)) (omega arith) (omega arith)
+
+fill-requires : tie.Need-fill-requires
+fill-requires c κs =
+    let s = c .before .before .before .before in
+    let l = c .before .before .before .if2 .left in
+    let h = c .before .before .if3 .left in
+    (right s, (s .shortest .ensures, (omega arith, omega arith)))
+
+returns-4 : tie.Need-returns-4
+returns-4 c =
+    let s = c .before .before .before .before .before .before .before .before in
+    let n = many s in
+    let l = c .before .before .before .before .before .before .before .if2 .left in
+    let h = c .before .before .before .before .before .before .if3 .left in
+    let e = c .before .before .before .fill .ensures in
+    all-filled _ _ _ _ _ (right s) n (omega arith) (omega arith) (e .0) (e .1)
+
+pub answer-spec : {M : Type 1} → statement M
+answer-spec =
+    tie.close
+    (tie.spec (λ c κs. search needs) returns (λ c κs. search needs) returns-2 returns-3 fill-requires (λ c. search needs) (λ c. search needs) returns-4)
+'''
+RIGHT_LAST = '''many : (c : tie.After-shortest) → let a = c .before .before .before .before .before .before .before .args in c .shortest .result ≡ length (asked (a .radials .now) (a .types .now) (a .gates .now))
+many c = c .shortest .ensures ∙ sym (many-asked _ _ _)
+
+returns : tie.Need-returns
+returns c = let n = many (c .before) in let h = c .if1 .taken in short-kinds _ _ _ _ _ (omega arith)
+
+returns-2 : tie.Need-returns-2
+returns-2 c = let n = many (c .before .before) in let l = c .before .if1 .left in let h = c .if2 .taken in short-hundredths _ _ _ _ _ (omega arith) (omega arith)
+
+returns-3 : tie.Need-returns-3
+returns-3 c =
+    let n = many (c .before .before .before .before) in
+    let l = c .before .before .before .if1 .left in
+    let h = c .before .before .if2 .left in
+    not-right _ _ _ _ _ (sym (c .before .right .ensures) ∙ not-true (c .before .right .result) (c .if3 .taken)) (omega arith) (omega arith)
+
+fill-requires : tie.Need-fill-requires
+fill-requires c κs =
+    let s = c .before .before .before .before .before .before in
+    let l = c .before .before .before .before .before .if1 .left in
+    let h = c .before .before .before .before .if2 .left in
+    ((sym (c .before .before .before .right .ensures) ∙ not-false (c .before .before .before .right .result) (c .before .before .if3 .left)), (s .shortest .ensures, (omega arith, omega arith)))
+
+returns-4 : tie.Need-returns-4
+returns-4 c =
+    let n = many (c .before .before .before .before .before .before .before .before .before .before) in
+    let l = c .before .before .before .before .before .before .before .before .before .if1 .left in
+    let h = c .before .before .before .before .before .before .before .before .if2 .left in
+    let e = c .before .before .before .fill .ensures in
+    all-filled _ _ _ _ _ (sym (c .before .before .before .before .before .before .before .right .ensures) ∙ not-false (c .before .before .before .before .before .before .before .right .result) (c .before .before .before .before .before .before .if3 .left)) n (omega arith) (omega arith) (e .0) (e .1)
+
+pub answer-spec : {M : Type 1} → statement M
+answer-spec =
+    tie.close
+    (tie.spec (λ c κs. search needs) returns returns-2 (λ c κs. search needs) returns-3 fill-requires (λ c. search needs) (λ c. search needs) returns-4)
+'''
+FIND_PROOF = '''returns : tie.Need-returns
+unfolding placeSaid
+returns c = rw (c .if1 .taken)
+
+-- how many radials there are, as it was read
+number : (c : tie.After-u32-at) → let a = c .before .before .before .before .args in c .u32-at .result ≡ le 4 (a .index .now) (radialsAt (a .index .now))
+number c = c .u32-at .ensures ∙ ap (le 4 (c .before .before .before .before .args .index .now)) (c .before .radials-at .ensures .0)
+
+returns-2 : tie.Need-returns-2
+unfolding placeSaid
+returns-2 c =
+    let a = c .before .before .before .before .before .args in
+    let n = number (c .before) in
+    let h = c .if2 .taken in
+    rw (lt-leb (a .sequence) (le 4 (a .index .now) (radialsAt (a .index .now))) (omega arith), le-leb 1 (a .sequence) (omega arith))
+
+add-u64-at : tie.Need-add-u64-at
+add-u64-at c = omega (arith, c .before .before .radials-at .ensures .1)
+
+add-u64-at-2 : tie.Need-add-u64-at-2
+add-u64-at-2 c = omega (arith, c .before .before .radials-at .ensures .1)
+
+returns-3 : tie.Need-returns-3
+unfolding placeSaid
+returns-3 c =
+    let a = c .before .before .before .before .before .before .args in
+    let n = number (c .before .before) in
+    let h = c .before .if2 .left in
+    rw (le-leb (a .sequence) (le 4 (a .index .now) (radialsAt (a .index .now))) (omega arith), le-leb 1 (a .sequence) (omega arith), c .u64-at .ensures, c .before .before .before .radials-at .ensures .0)
+
+pub find-spec : {M : Type 1} → statement M
+find-spec =
+    tie.close
+    (tie.spec returns (λ c κs. search needs) (λ c κs. search needs) (λ c. search needs) returns-2 add-u64-at (λ c. search needs) (λ c. search needs) add-u64-at-2 (λ c κs. search needs) returns-3)
+'''
+FIND_ZERO = '''-- how many radials there are, as it was read
+number : (c : tie.After-u32-at) → let a = c .before .before .before .args in c .u32-at .result ≡ le 4 (a .index .now) (radialsAt (a .index .now))
+number c = c .u32-at .ensures ∙ ap (le 4 (c .before .before .before .args .index .now)) (c .before .radials-at .ensures .0)
+
+returns : tie.Need-returns
+unfolding placeSaid
+returns c =
+    let a = c .before .before .before .before .args in
+    let n = number (c .before) in
+    let h = c .if1 .taken in
+    rw (lt-leb (a .sequence) (le 4 (a .index .now) (radialsAt (a .index .now))) (omega arith))
+
+add-u64-at : tie.Need-add-u64-at
+add-u64-at c = omega (arith, c .before .before .before .radials-at .ensures .1)
+
+returns-2 : tie.Need-returns-2
+unfolding placeSaid
+returns-2 c =
+    let a = c .before .before .before .before .before .before .args in
+    let n = number (c .before .before .before) in
+    let z = c .before .if2 .taken in
+    let e : radialsAt (a .index .now) + 4 ≡ radialsAt (a .index .now) + 4 + 8 * (a .sequence - 1) = omega arith in
+    rw (le-leb (a .sequence) (le 4 (a .index .now) (radialsAt (a .index .now))) (omega arith), ← e, c .u64-at .ensures, c .before .before .before .before .radials-at .ensures .0)
+
+add-u64-at-2 : tie.Need-add-u64-at-2
+add-u64-at-2 c = omega (arith, c .before .before .before .radials-at .ensures .1)
+
+add-u64-at-3 : tie.Need-add-u64-at-3
+add-u64-at-3 c = omega (arith, c .before .before .before .radials-at .ensures .1)
+
+returns-3 : tie.Need-returns-3
+unfolding placeSaid
+returns-3 c =
+    let a = c .before .before .before .before .before .before .args in
+    let n = number (c .before .before .before) in
+    let h = c .before .before .if1 .left in
+    rw (le-leb (a .sequence) (le 4 (a .index .now) (radialsAt (a .index .now))) (omega arith), c .u64-at2 .ensures, c .before .before .before .before .radials-at .ensures .0)
+
+pub find-spec : {M : Type 1} → statement M
+find-spec =
+    tie.close
+    (tie.spec (λ c κs. search needs) (λ c κs. search needs) (λ c. search needs) returns add-u64-at (λ c κs. search needs) returns-2 add-u64-at-2 (λ c. search needs) (λ c. search needs) add-u64-at-3 (λ c κs. search needs) returns-3)
+'''
+ZERO_NOWHERE = '    if sequence == 0 {\n        return Place::Nowhere;\n    }\n'
+ZERO_FIRST = '    if sequence == 0 {\n        return Place::At(le::u64_at(index, at + 4) as usize);\n    }\n'
+
 
 def swapped(path, one, other):
     return [(path, one, '\0'), (path, other, one), (path, '\0', other)]
@@ -657,6 +883,81 @@ SLIPS = {
         ('crates/pick/proofs/Growing.antt', 'rw (h .0) (go (empties wanted (bytesOf A x)) (first-same ss later s (h .1)) e)',
          'first-same ss later s (h .1) e'),
         (PICK_FIRST, FIRST_GO, FIRST_NEVER),
+    ],
+    # a refused question shown as "unknown" (document 02, #109)
+    'refused_as_unknown': [
+        (ENGINE, 'kindShown (refused number place) = number', 'kindShown (refused number place) = 3'),
+        (ENGINE_CODE, 'GateAnswer::Refused(number) => (number % 256) as u8', 'GateAnswer::Refused(_) => 3'),
+        (KIND, 'c .before .answer2 .given .1', 'c .enum-told .given .1'),
+        (KIND, '(λ c. search needs) (λ c. search needs) returns', '(λ c. search needs) returns'),
+        (FILLING, BELOW, BELOW_BY_ITSELF),
+        (FILLING, 'below (stands-asked f n t i)', 'below f (whereIs f n t) i'),
+    ],
+    # the number of a refusal shown as its hundredths (document 02, #109)
+    'hundredths_of_refusal': [
+        (ENGINE, 'hundredthsShown (refused number place) = pos 0', 'hundredthsShown (refused number place) = pos (number % 256)'),
+        (ENGINE, 'Nat.{ℕ}', 'Nat.{ℕ, _%_}'),
+        (ENGINE_CODE, 'GateAnswer::Refused(_) => 0', 'GateAnswer::Refused(number) => (number % 256) as i32'),
+        (HUNDREDTHS, 'returns-2 c = rw (c .enum-told .given .1)', 'returns-2 c = rw (c .before .answer2 .given .1) (toZ-pos w32 (omega arith))'),
+        (HUNDREDTHS, '(λ c. search needs) (λ c. search needs) returns', '(λ c. search needs) (λ c. search needs) (λ c. search needs) returns'),
+        (HUNDREDTHS, 'use mir.Facts.{toZ-ofZ}', 'use native.Mathlib.Omega.{arith}\nuse mir.Syntax.{w32}\nuse mir.Facts.{toZ-ofZ, toZ-pos}'),
+        (FILLING, BELOW, BELOW_BY_ITSELF),
+        (FILLING, 'below (stands-asked f n t i)', 'below f (whereIs f n t) i'),
+    ],
+    # the place of the next radial read (document 02, #109)
+    'next_place': [
+        (FORMS, '8 * (n - 1)', '8 * n'),
+        (SAID, '8 * (sequence - 1)', '8 * sequence'),
+        (FIND, 'add-u64-at (λ c. search needs) (λ c. search needs) add', 'add-u64-at (λ c. search needs) add'),
+        (SAYS, 'cond (leb 1 n && leb n m) (At (le 8 x (at + 8 * (n - 1))))', 'cond (leb 1 n && leb n m) (At (le 8 x (at + 8 * n)))'),
+        (SAYS, 'rw (le-leb 1 (suc m) (omega arith), add-zero at)', 'rw (le-leb 1 (suc m) (omega arith))'),
+        (SAYS, 'at + 8 * (suc (suc n) - 1) ≡ at + 8 + 8 * (suc n - 1)', 'at + 8 * suc (suc n) ≡ at + 8 + 8 * suc n'),
+    ],
+    # the radials of an index found by the old form alone (document 02, #109)
+    'old_form_alone': [
+        (FORMS, 'radialsAt x = countsAt x + 2 * cutsSaid x', 'radialsAt x = 1 + 2 * oldCuts x'),
+        (SAID, '    if cuts == 0 {\n        return 3 + 2 * (le::u16_at(index, 1) as usize);\n    }\n', ''),
+        (RADIALS_AT, RADIALS_NEW, ''),
+        (RADIALS_AT, RADIALS_OLD, RADIALS_OLD_ALONE),
+        (SAID_BACK, 'length (start cuts)\n\n', 'length (start cuts)\n    radials : radialsAt (indexBy start cuts ss) ≡ length (start cuts) + 2 * cuts\n\n'),
+        (SAID_BACK, 'rw (told .is, told .at, number', 'rw (told .is, told .at, told .radials, number'),
+        (SAID_BACK, '  unfolding cutsSaid countsAt\n', '  unfolding cutsSaid countsAt radialsAt\n'),
+        (SAID_BACK, '  unfolding cutsSaid countsAt newStart le\n', '  unfolding cutsSaid countsAt radialsAt newStart le\n'),
+        (SAID_BACK, 'at = rw (e, n) (sym (length-old cuts)) }', 'at = rw (e, n) (sym (length-old cuts)); radials = rw (e, length-old cuts) }'),
+        (SAID_BACK, 'at = rw first-new (sym (length-new cuts));', 'at = rw first-new (sym (length-new cuts));\n        radials = rw (first-new, length-new cuts);'),
+    ],
+    # radial 0 answered as the first (document 02, #109)
+    'radial_zero': [
+        (FORMS, 'cond (leb 1 n && leb n (le 4 x (radialsAt x)))', 'cond (leb n (le 4 x (radialsAt x)))'),
+        (SAID, ZERO_NOWHERE, ''),
+        (SAID, '    Place::At(le::u64_at(index, at + 4 + 8', ZERO_FIRST + '    Place::At(le::u64_at(index, at + 4 + 8'),
+        (FIND, FIND_PROOF, FIND_ZERO),
+        (FIND, 'use native.Mathlib.Omega', 'use Prim.Native.Nat.{_+_, _-_, _*_}\nuse native.Mathlib.Omega'),
+        (SAYS, 'cond (leb 1 n && leb n m)', 'cond (leb n m)'),
+        (SAYS, 'rw (leb·suc-zero n, le-leb 1 (suc n) (omega arith))', 'rw (leb·suc-zero n)'),
+        (SAYS, 'rw (leb·suc-suc (suc n) m, le-leb 1 (suc (suc n)) (omega arith), next) (rw (le-leb 1 (suc n) (omega arith)) at (at-place m ss x (at + 8) (suc n) rest))',
+         'rw (leb·suc-suc (suc n) m, next) (at-place m ss x (at + 8) (suc n) rest)'),
+    ],
+    # 33 before 59 (document 02, #109)
+    'room_before_index': [
+        (ENGINE, 'cond (rightFor f x) (cond (rooms n k h) (answered n) (refused 33 0)) (refused 59 0)',
+         'cond (rooms n k h) (cond (rightFor f x) (answered n) (refused 59 0)) (refused 33 0)'),
+        (ENGINE_CODE, INDEX_FIRST, ''),
+        (ENGINE_CODE, '    fill(file,', INDEX_FIRST + '    fill(file,'),
+        (FILLING, 'not-right : rightFor f x ≡ false →', 'not-right : rightFor f x ≡ false → length qs ≤ length k → length qs ≤ length h →'),
+        (FILLING, 'not-right e = record { answer = rw e; kinds = rw e; hundredths = rw e }',
+         'not-right e lk lh = record { answer = rw (e, le-leb (length qs) (length k) lk, le-leb (length qs) (length h) lh); kinds = rw e; hundredths = rw e }'),
+        (FILLING, 'no-room : rightFor f x ≡ true → rooms', 'no-room : rooms'),
+        (FILLING, 'no-room r e = record { answer = rw (r, e); kinds = rw (r, e); hundredths = rw (r, e) }',
+         'no-room e = record { answer = rw e; kinds = rw (e, neither (rightFor f x)); hundredths = rw (e, neither (rightFor f x)) }'),
+        (FILLING, '  no-room :', NEITHER + '  no-room :'),
+        (FILLING, 'short-kinds : rightFor f x ≡ true →', 'short-kinds :'),
+        (FILLING, 'short-kinds r l = no-room r', 'short-kinds l = no-room'),
+        (FILLING, 'short-hundredths : rightFor f x ≡ true →', 'short-hundredths :'),
+        (FILLING, 'short-hundredths r m l = no-room r', 'short-hundredths m l = no-room'),
+        (FILLING, 'Bool.{Bool, true, false}', 'Bool.{Bool, true, false, _&&_}'),
+        (MEANING, LIST_59, LIST_59_LAST),
+        (LIST_ANSWER, RIGHT_FIRST, RIGHT_LAST),
     ],
 }
 

@@ -19,7 +19,8 @@ fn old_cuts(index: &[u8]) -> u8
     index[0]
 }
 
-// Where the number of radials stands, ahead of their places.
+// Where the number of radials stands, ahead of their places: at the farthest behind the counts of 65,535 cuts, the most that two bytes
+// say, so that no sum is too large.
 fn radials_at(index: &[u8]) -> usize
     ensures { λ r. ⌜ (r ≡ radialsAt (now (index .entry))) × (r ≤ 131073) ⌝ }
 {
