@@ -23,7 +23,7 @@ use Rattle.ask.specs.Growth.{gateAsked}
 use Rattle.ask.specs.Places.{whereIs}
 use Rattle.index.specs.Answer.{rightFor}
 use Rattle.engine.specs.declared.ListAnswer.the-variants.{Filled, Refused}
-use Rattle.engine.specs.Engine.{Question, walked, kindShown, hundredthsShown, kindsOf, hundredthsOf, answerOf, bufferOf, Answers, rooms}
+use Rattle.engine.specs.Engine.{Question, kindShown, hundredthsShown, kindFor, hundredthsFor, kindsOf, hundredthsOf, answerOf, bufferOf, Answers, rooms}
 use Rattle.engine.specs.Meaning.{Stands, its-own, no-radial, no-moment, no-gate}
 use Rattle.engine.proofs.Listed.{noQuestion}
 
@@ -63,22 +63,22 @@ kind-fits f n t i = mod-eq-of-lt (below (stands-asked f n t i))
 
 module _ (f : List ℕ) (qs : List Question) (k : List ℕ) (h : List ℤ) where
   pub record Begun (i : ℕ) (k′ : List ℕ) (h′ : List ℤ) : Type 0 where
-    pub kinds : Partly (λ (q : Question). kindShown (walked f q)) qs k i k′
-    pub hundredths : Partly (λ (q : Question). hundredthsShown (walked f q)) qs h i h′
+    pub kinds : Partly (kindFor f) qs k i k′
+    pub hundredths : Partly (hundredthsFor f) qs h i h′
 
   pub begun-none : Begun 0 k h
-  begun-none = record { kinds = fill-none (λ (q : Question). kindShown (walked f q)) qs k; hundredths = fill-none (λ (q : Question). hundredthsShown (walked f q)) qs h }
+  begun-none = record { kinds = fill-none (kindFor f) qs k; hundredths = fill-none (hundredthsFor f) qs h }
 
   pub begun-turn : {i : ℕ} {k′ : List ℕ} {h′ : List ℤ} (v : ℕ) (w : ℤ) → Begun i k′ h′ → i < length qs → i < length k → i < length h
-      → v ≡ kindShown (walked f (getD qs i noQuestion)) → w ≡ hundredthsShown (walked f (getD qs i noQuestion)) → Begun (i + 1) (set k′ i v) (set h′ i w)
+      → v ≡ kindFor f (getD qs i noQuestion) → w ≡ hundredthsFor f (getD qs i noQuestion) → Begun (i + 1) (set k′ i v) (set h′ i w)
   begun-turn {i} {k′} {h′} v w b hq hk hh ev ew = record {
-    kinds = fill-turn (λ (q : Question). kindShown (walked f q)) qs k noQuestion i k′ v (b .kinds) hq hk ev;
-    hundredths = fill-turn (λ (q : Question). hundredthsShown (walked f q)) qs h noQuestion i h′ w (b .hundredths) hq hh ew;
+    kinds = fill-turn (kindFor f) qs k noQuestion i k′ v (b .kinds) hq hk ev;
+    hundredths = fill-turn (hundredthsFor f) qs h noQuestion i h′ w (b .hundredths) hq hh ew;
   }
 
   pub begun-all : {i : ℕ} {k′ : List ℕ} {h′ : List ℤ} → Begun i k′ h′ → i ≡ length qs → (k′ ≡ filled (kindsOf f qs) k) × (h′ ≡ filled (hundredthsOf f qs) h)
   begun-all {i} {k′} {h′} b e =
-      (fill-all (λ (q : Question). kindShown (walked f q)) qs k i k′ (b .kinds) e, fill-all (λ (q : Question). hundredthsShown (walked f q)) qs h i h′ (b .hundredths) e)
+      (fill-all (kindFor f) qs k i k′ (b .kinds) e, fill-all (hundredthsFor f) qs h i h′ (b .hundredths) e)
 
 -- ---- the promise
 

@@ -16,24 +16,24 @@ use Rattle.gates.proofs.Rows.{at-filled}
 use Rattle.ask.specs.Growth.{gateAsked}
 use Rattle.index.specs.Answer.{rightFor}
 use Rattle.engine.specs.declared.ListAnswer.{ListAnswer}
-use Rattle.engine.specs.Engine.{Question, asked, walked, kindShown, hundredthsShown, kindsOf, hundredthsOf, toldList, answerOf, bufferOf, rooms, Answers}
+use Rattle.engine.specs.Engine.{Question, asked, kindFor, hundredthsFor, kindsOf, hundredthsOf, toldList, answerOf, bufferOf, rooms, Answers}
 use Rattle.engine.specs.Meaning.{Stands, its-own, no-radial, no-moment, no-gate, EachStands, AsInRow}
 use Rattle.engine.proofs.Filling.{stands-asked}
 use Rattle.engine.proofs.Listed.{many-asked, at-asked, noQuestion, questionAt}
 
 -- ---- a list that is answered was filled
 
-record IsFilled (f x : List ℕ) (qs : List Question) (k : List ℕ) (h : List ℤ) (m : ℕ) (k′ : List ℕ) (h′ : List ℤ) : Type 0 where
+record IsFilled (f : List ℕ) (qs : List Question) (k : List ℕ) (h : List ℤ) (m : ℕ) (k′ : List ℕ) (h′ : List ℤ) : Type 0 where
   all : m ≡ length qs
   kinds : k′ ≡ filled (kindsOf f qs) k
   hundredths : h′ ≡ filled (hundredthsOf f qs) h
 
 list-filled : (f x : List ℕ) (qs : List Question) (k k′ : List ℕ) (h h′ : List ℤ) (r : ListAnswer) (m : ℕ) → Answers f x qs k h r k′ h′ → toldList r ≡ answered m
-    → IsFilled f x qs k h m k′ h′
+    → IsFilled f qs k h m k′ h′
 unfolding answerOf bufferOf
 list-filled f x qs k k′ h h′ r m p e = go (rightFor f x) refl (rooms (length qs) k h) refl
   where
-    go : (a : Bool) → rightFor f x ≡ a → (b : Bool) → rooms (length qs) k h ≡ b → IsFilled f x qs k h m k′ h′
+    go : (a : Bool) → rightFor f x ≡ a → (b : Bool) → rooms (length qs) k h ≡ b → IsFilled f qs k h m k′ h′
     go true q true s =
         let here : answered m ≡ answered (length qs) = sym e ∙ rw (q, s) at (p .answer) in
         let all : m ≡ length qs = cc in
@@ -51,6 +51,7 @@ list-filled f x qs k k′ h h′ r m p e = go (rightFor f x) refl (rooms (length
 behind : {A : Type 0} (new old : List A) (m : ℕ) → m ≡ length new → drop m (filled new old) ≡ drop m old
 behind new old m e = drop-at new (drop (length new) old) m (sym e) ∙ ap (λ (n : ℕ). drop n old) (sym e)
 
+-- the least of three numbers is one of them
 at-least : (a b c m : ℕ) → m ≡ min a (min b c) → (m ≡ a) ⊎ ((m ≡ b) ⊎ (m ≡ c))
 at-least a b c m e = dite (decLe a (min b c)) (λ h. inl (omega arith)) (λ h. inr (dite (decLe b c) (λ l. inl (omega arith)) (λ l. inr (omega arith))))
 
@@ -58,11 +59,11 @@ module _ (f ns ts gs k : List ℕ) (h : List ℤ) (i : ℕ) (l : i < length (ask
   abbrev one : Question
   one = questionAt ns ts gs i
 
-  kind-here : getD (filled (kindsOf f (asked ns ts gs)) k) i 0 ≡ kindShown (walked f one)
-  kind-here = at-filled (λ (q : Question). kindShown (walked f q)) (asked ns ts gs) k 0 noQuestion i l ∙ ap (λ (q : Question). kindShown (walked f q)) (at-asked ns ts gs i l)
+  kind-here : getD (filled (kindsOf f (asked ns ts gs)) k) i 0 ≡ kindFor f one
+  kind-here = at-filled (kindFor f) (asked ns ts gs) k 0 noQuestion i l ∙ ap (kindFor f) (at-asked ns ts gs i l)
 
-  hundredths-here : getD (filled (hundredthsOf f (asked ns ts gs)) h) i (pos 0) ≡ hundredthsShown (walked f one)
-  hundredths-here = at-filled (λ (q : Question). hundredthsShown (walked f q)) (asked ns ts gs) h (pos 0) noQuestion i l ∙ ap (λ (q : Question). hundredthsShown (walked f q)) (at-asked ns ts gs i l)
+  hundredths-here : getD (filled (hundredthsOf f (asked ns ts gs)) h) i (pos 0) ≡ hundredthsFor f one
+  hundredths-here = at-filled (hundredthsFor f) (asked ns ts gs) h (pos 0) noQuestion i l ∙ ap (hundredthsFor f) (at-asked ns ts gs i l)
 
 pub each-stands : EachStands
 each-stands f x ns ts gs k k′ h h′ r m p e =

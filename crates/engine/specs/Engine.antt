@@ -41,11 +41,18 @@ unfoldable pub hundredthsShown : Telling Values → ℤ
 hundredthsShown (refused number place) = pos 0
 hundredthsShown (answered v) = v .hundredths
 
+-- of a question, and of all of them
+abbrev pub kindFor : List ℕ → Question → ℕ
+kindFor f q = kindShown (walked f q)
+
+abbrev pub hundredthsFor : List ℕ → Question → ℤ
+hundredthsFor f q = hundredthsShown (walked f q)
+
 abbrev pub kindsOf : List ℕ → List Question → List ℕ
-kindsOf f qs = map (λ (q : Question). kindShown (walked f q)) qs
+kindsOf f qs = map (kindFor f) qs
 
 abbrev pub hundredthsOf : List ℕ → List Question → List ℤ
-hundredthsOf f qs = map (λ (q : Question). hundredthsShown (walked f q)) qs
+hundredthsOf f qs = map (hundredthsFor f) qs
 
 -- how many questions were answered; or the refusal's number, and place 0
 abbrev pub toldList : ListAnswer → Telling ℕ

@@ -1,30 +1,17 @@
 -- Laws of specs/Codes: how many codes there are and which stands at each place, over the width; and what they are at
 -- one byte and at two. Assumes nothing.
-use mathlib.Core.Path.{_≡_, refl, ap, sym, _∙_}
+use mathlib.Core.Path.{_≡_, ap, _∙_}
 use mathlib.Core.List.{List}
 use mathlib.Core.Logic.{_⊎_, inl, inr}
-use Prim.Native.Nat.{ℕ, zero, suc, _+_, _*_, _/_, _≤_, _<_}
-use native.Mathlib.Nat.{add-zero, zero-add, suc-mul, zero-mul, mul-one, mul-comm, div-one, div-le-self}
+use Prim.Native.Nat.{ℕ, _+_, _*_, _/_, _≤_, _<_}
+use native.Mathlib.Nat.{zero-add, mul-one, mul-comm, div-one, div-le-self}
 use native.Mathlib.Omega.{arith}
 use lib.ListN.{length, getD}
 use lib.Seq.{ext-getD}
 use borrow.Author.Tests.{eq-eqb, ne-eqb}
-use Rattle.le.specs.Le.{le, items}
+use Rattle.le.specs.Le.{le}
+use Rattle.le.proofs.Laws.{length-items, getD-items}
 use Rattle.gates.specs.Codes.{widthOf, gatesIn, codesOf}
-
-module _ {A : Type 0} (dec : List ℕ → ℕ → A) (k : ℕ) where
-  length-items : (n : ℕ) (f : List ℕ) (at : ℕ) → length (items dec k n f at) ≡ n
-  unfolding items
-  length-items zero f at = refl
-  length-items (suc n) f at = ap suc (length-items n f (at + k))
-
-  getD-items : (n : ℕ) (f : List ℕ) (at i : ℕ) (d : A) → i < n → getD (items dec k n f at) i d ≡ dec f (at + i * k)
-  unfolding items
-  getD-items zero f at i d h = absurd (omega arith)
-  getD-items (suc n) f at zero d h = rw (zero-mul, add-zero)
-  getD-items (suc n) f at (suc i) d h =
-      let e : at + suc i * k ≡ at + k + i * k = rw suc-mul (omega arith) in
-      getD-items n f (at + k) i d (omega arith) ∙ ap (dec f) (sym e)
 
 length-codes : (bin : ℕ) (bytes : List ℕ) → length (codesOf bin bytes) ≡ gatesIn (length bytes) (widthOf bin)
 unfolding codesOf

@@ -4,7 +4,7 @@ use mathlib.Core.Bool.{true, false}
 use mathlib.Core.Logic.{dite}
 use mathlib.Core.List.{List, [], _∷_, _++_, append-assoc, append-nil}
 use Prim.Native.Nat.{ℕ, zero, suc, _+_, _*_, _-_, _/_, _%_, _^_, _≤_, _<_}
-use native.Mathlib.Nat.{mul-zero, mul-suc, mul-le-mul-left, not-suc-le-zero, le-of-suc-le-suc, add-zero, zero-add, suc-add, pow-suc, pow-succ', one-le-pow, div-one, div-div-eq-div-mul}
+use native.Mathlib.Nat.{mul-zero, mul-suc, suc-mul, zero-mul, mul-le-mul-left, not-suc-le-zero, le-of-suc-le-suc, add-zero, zero-add, suc-add, pow-suc, pow-succ', one-le-pow, div-one, div-div-eq-div-mul}
 use native.Mathlib.Numerals.{add-one}
 use native.Mathlib.Decide.{decLt}
 use native.Mathlib.Omega.{arith}
@@ -308,6 +308,21 @@ module _ {A : Type 0} (enc : A → List ℕ) (k : ℕ) (long : (x : A) → lengt
 part-none : (f : List ℕ) (at : ℕ) {n : ℕ} → n ≡ 0 → [] ≡ part n f at
 unfolding part
 part-none f at e = rw e
+
+-- elements that were read: how many there are, and which stands at each place
+module _ {A : Type 0} (dec : List ℕ → ℕ → A) (k : ℕ) where
+  pub length-items : (n : ℕ) (f : List ℕ) (at : ℕ) → length (items dec k n f at) ≡ n
+  unfolding items
+  length-items zero f at = refl
+  length-items (suc n) f at = ap suc (length-items n f (at + k))
+
+  pub getD-items : (n : ℕ) (f : List ℕ) (at i : ℕ) (d : A) → i < n → getD (items dec k n f at) i d ≡ dec f (at + i * k)
+  unfolding items
+  getD-items zero f at i d h = absurd (omega arith)
+  getD-items (suc n) f at zero d h = rw (zero-mul, add-zero)
+  getD-items (suc n) f at (suc i) d h =
+      let e : at + suc i * k ≡ at + k + i * k = rw suc-mul (omega arith) in
+      getD-items n f (at + k) i d (omega arith) ∙ ap (dec f) (sym e)
 
 -- a run of elements that were read has the bytes that were there
 pub run-items : {A : Type 0} (enc : A → List ℕ) (dec : List ℕ → ℕ → A) (k n : ℕ) (f : List ℕ) (at : ℕ)

@@ -6,7 +6,7 @@ use borrow.Author.Needs.{needs, sfits-of}
 use mir.Facts.{toZ-ofZ}
 use Rattle.gates.specs.Gates.{Values}
 use Rattle.gates.specs.Telling.{Telling}
-use Rattle.engine.specs.Engine.{Question, asked, walked, kindShown, hundredthsShown}
+use Rattle.engine.specs.Engine.{asked, kindShown, hundredthsShown, kindFor, hundredthsFor}
 use Rattle.engine.proofs.Filling.{Begun, begun-none, begun-turn, begun-all, kind-fits}
 use Rattle.engine.proofs.Listed.{many-asked, at-asked}
 use Rattle.engine.proofs.fill.Statement.{statement}
@@ -36,8 +36,8 @@ loop-again c =
     let told = c .before .before .gate .ensures in (
       omega arith,
       begun-turn f qs (a .kinds .now) (a .hundredths .now) _ _ (o .loop .inv .1) (omega arith) (omega arith) (omega arith)
-          (c .before .kind .ensures ∙ ap (λ (y : Telling Values). kindShown y % 256) told ∙ kind-fits f _ _ _ ∙ ap (λ (q : Question). kindShown (walked f q)) (sym one))
-          (toZ-ofZ (sfits-of (c .hundredths-of .ok)) ∙ c .hundredths-of .ensures ∙ ap hundredthsShown told ∙ ap (λ (q : Question). hundredthsShown (walked f q)) (sym one)),
+          (c .before .kind .ensures ∙ ap (λ (y : Telling Values). kindShown y % 256) told ∙ kind-fits f _ _ _ ∙ ap (kindFor f) (sym one))
+          (toZ-ofZ (sfits-of (c .hundredths-of .ok)) ∙ c .hundredths-of .ensures ∙ ap hundredthsShown told ∙ ap (hundredthsFor f) (sym one)),
     )
 
 returns : tie.Need-returns Inv-loop μ-loop
