@@ -11,7 +11,7 @@ use radial::Radial;
 use reading::{Found, Stretch};
 
 // 0, or the refusal's number; the radial's place, and its header.
-#[derive(Drop)]
+#[derive(Clone, Copy)]
 pub struct RadialAnswer {
     pub number: u32,
     pub place: usize,
@@ -19,13 +19,13 @@ pub struct RadialAnswer {
 }
 
 // 0, or the refusal's number; the moment's header.
-#[derive(Drop)]
+#[derive(Clone, Copy)]
 pub struct MomentAnswer {
     pub number: u32,
     pub header: Moment,
 }
 
-#[derive(Drop)]
+#[derive(Clone, Copy)]
 pub enum GateAnswer {
     Answered(Told),
     Refused(u32),

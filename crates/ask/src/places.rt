@@ -5,7 +5,7 @@ ghost use Rattle.ask.specs.Places.{where_is, in_stretch};
 
 use reading::{Found, Stretch};
 
-#[derive(Drop)]
+#[derive(Clone, Copy)]
 pub enum Where {
     // The radial's stretch, and the place of the moment's header in it.
     At(Stretch, usize),

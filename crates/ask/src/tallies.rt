@@ -17,7 +17,7 @@ use walk::due::{Walk, cut_place};
 use wedge::Wedge;
 
 // What is counted: the radials, those of them whose spot blank is 1, and the gates by their kinds.
-#[derive(Drop)]
+#[derive(Clone, Copy)]
 pub struct Sums {
     pub radials: u64,
     pub blanks: u64,
@@ -25,13 +25,13 @@ pub struct Sums {
 }
 
 // The wedge as it was asked, and what was counted in it.
-#[derive(Drop)]
+#[derive(Clone, Copy)]
 pub struct Tally {
     pub wedge: Wedge,
     pub sums: Sums,
 }
 
-#[derive(Drop)]
+#[derive(Clone, Copy)]
 pub enum TallyAnswer {
     Counted(Tally),
     Refused(u32),

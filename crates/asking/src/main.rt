@@ -5,6 +5,8 @@
 // wanted there is no index and no list: the index is written, in a room of as many bytes as the index is said to have. Of the input
 // 3,932,715 bytes are taken, enough for a volume of 2,097,152 bytes, the index of 256 cuts and 65,536 radials, and a list of 65,536
 // questions. What is longer is not looked at, and neither is what the input ends in.
+#![tactic(auto)]
+
 mod rooms;
 mod telling;
 mod words;

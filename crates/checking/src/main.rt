@@ -4,6 +4,8 @@
 // for each row: that it is the file's own, or the first gate at which it differs; a refusal as its number and place and, in the next
 // line, in words. Of the input 2,424,856 bytes are taken, enough for a volume of 2,097,152 bytes and a row of 65,536 gates; a longer one
 // is not looked at.
+#![tactic(auto)]
+
 ghost use Rattle.std.specs.Prelude.{◌≡◌, ◌≤◌, ◌<◌, length};
 
 use decoded::CheckAnswer;

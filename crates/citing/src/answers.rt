@@ -12,7 +12,7 @@ use moment::Moment;
 use reading::{Found, Stretch};
 
 // The fields that give a gate's answer.
-#[derive(Drop)]
+#[derive(Clone, Copy)]
 pub struct GateCited {
     pub data_type: Field,
     pub scale: Field,
@@ -21,7 +21,7 @@ pub struct GateCited {
     pub code: Field,
 }
 
-#[derive(Drop)]
+#[derive(Clone, Copy)]
 pub enum WhyGate {
     Answered(GateCited),
     // 30: how many whole radials there are.

@@ -1,4 +1,6 @@
 // Why a gate's answer is what it is, and why a file is refused (document 02, #104): the fields that are cited, and what stands there.
+#![tactic(auto)]
+
 ghost use Rattle.std.specs.Prelude.{◌≡◌};
 ghost use Rattle.citing.specs.Fields.{field_at};
 
@@ -6,7 +8,7 @@ pub mod answers;
 pub mod refusals;
 
 // A field: its place in the file, its size in bytes, and the number without sign that stands there.
-#[derive(Drop)]
+#[derive(Clone, Copy)]
 pub struct Field {
     pub place: usize,
     pub size: usize,

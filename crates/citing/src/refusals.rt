@@ -19,7 +19,7 @@ use walk::due::{Due, Walk, is_end, size_at};
 
 // Which block: its kind; its number among its kind, from 1, a moment's being that of its radial; which moment of the radial, from 1, and
 // 0 where it is none; its place in the file.
-#[derive(Drop)]
+#[derive(Clone, Copy)]
 pub struct Block {
     pub kind: Due,
     pub number: usize,
@@ -28,7 +28,7 @@ pub struct Block {
 }
 
 // The refusal's place, the clause that is broken, its block, and its field with what was found there.
-#[derive(Drop)]
+#[derive(Clone, Copy)]
 pub struct Cited {
     pub place: usize,
     pub clause: Clause,
@@ -36,7 +36,7 @@ pub struct Cited {
     pub field: Field,
 }
 
-#[derive(Drop)]
+#[derive(Clone, Copy)]
 pub enum Why {
     // Nothing is refused.
     Complete,

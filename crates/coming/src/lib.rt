@@ -1,5 +1,7 @@
 // Whether what a volume still has to have can come (document 02, #110): the moments of a radial, and the radials after it. No sum
 // and no product here can wrap, whatever the arguments.
+#![tactic(auto)]
+
 ghost use Rattle.std.specs.Prelude.{◌≡◌, ◌-◌, ◌*◌, ◌≤◌, leb};
 ghost use Rattle.std.specs.Int.Count.{ones};
 ghost use Rattle.coming.specs.Moments.{lacks as lacks_of, can_fill, fills as fills_of, moments_can};

@@ -1,4 +1,6 @@
 // The cut block (table 2-5): 256 bytes, every one of them in a field. INT, SHORT and FLOAT fields are carried as their bits.
+#![tactic(auto)]
+
 ghost use Rattle.std.specs.Prelude.{◌≡◌, ◌+◌, ◌≤◌, length, pos};
 ghost use Rattle.le.specs.Le.{stored, patch, int};
 ghost use Rattle.rules.specs.Ranges.{among};
@@ -6,7 +8,7 @@ ghost use Rattle.cut.specs.Cut.{cut_of, cut_at, cut_bytes, cut_size, cut_check};
 
 use rules::check::{Check, also};
 
-#[derive(Drop)]
+#[derive(Clone, Copy)]
 pub struct Cut {
     pub process_mode: u32,
     pub wave_form: u32,

@@ -1,5 +1,7 @@
 // Rows that somebody decoded, checked against a file's own (document 02, #112). Both lists are only read, in one pass with the
 // moment's codes that ends at the first difference; no row is made, and nothing is divided.
+#![tactic(auto)]
+
 ghost use Rattle.std.specs.Prelude.{◌≡◌, cond, ◌&&◌, min, eqb, pos, ◌+ℤ◌};
 ghost use Rattle.gates.specs.Codes.{codes_of};
 ghost use Rattle.gates.specs.Gates.{hundredths_of, kind_of};
@@ -13,7 +15,7 @@ use ask::{answers, places};
 use gates::{Coding, Gate};
 use moment::Moment;
 
-#[derive(Drop)]
+#[derive(Clone, Copy)]
 pub enum CheckAnswer {
     // Both lists are the row.
     Same,

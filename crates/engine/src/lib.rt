@@ -1,5 +1,7 @@
 // A whole list of questions on gates, answered by an index (document 02, #109). Whether the index is right for the file is found
 // once; then each question goes straight to its radial, and costs the moments of that radial alone.
+#![tactic(auto)]
+
 ghost use Rattle.std.specs.Prelude.{true, ◌≡◌, ◌%◌, ◌≤◌, min, length};
 ghost use Rattle.gates.specs.Rows.{filled};
 ghost use Rattle.reading.specs.Reading.{stretches, nth};
@@ -15,7 +17,7 @@ use index::said::Place;
 use radial::Radial;
 use reading::{Found, Stretch};
 
-#[derive(Drop)]
+#[derive(Clone, Copy)]
 pub enum ListAnswer {
     // How many questions were answered.
     Filled(usize),

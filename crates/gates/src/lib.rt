@@ -1,5 +1,7 @@
 // What the codes of a moment say: a gate's answer, a row of gates, and the counts of their kinds. Every public function is
 // total: what no accepted header allows, as a scale of 0, has an answer too, which its definition gives.
+#![tactic(auto)]
+
 ghost use Rattle.std.specs.Prelude.{◌≡◌, [], ◌∷◌, map, ◌+◌, ◌*◌, ◌^◌, ◌≤◌, ◌<◌, length, get_or};
 ghost use Rattle.gates.specs.Gates.{difference_of, float_of, is_measurement, other_of, gate_of, told_gate, kind_of, magnitude_of, hundredths_of, told_of, values_of};
 ghost use Rattle.gates.specs.Codes.{codes_of};
@@ -8,7 +10,7 @@ ghost use Rattle.gates.specs.Counting.{counts_of, summed, total_of};
 
 // What a moment's header says of its codes. A scale and an offset that the header's rules allow fit 16 bits, as codes
 // do, so every whole number here fits its type.
-#[derive(Drop)]
+#[derive(Clone, Copy)]
 pub struct Coding {
     pub data_type: u32,
     pub scale: u16,
@@ -17,7 +19,7 @@ pub struct Coding {
 
 // ---- a gate
 
-#[derive(Drop)]
+#[derive(Clone, Copy)]
 pub enum Gate {
     BelowThreshold,
     RangeFolded,
@@ -126,7 +128,7 @@ fn hundredths(c: Coding, code: u16) -> i32
 
 // All that is told of a gate: beside a value its exact fraction, not reduced, and its hundredths; zeros beside any other
 // case.
-#[derive(Drop)]
+#[derive(Clone, Copy)]
 pub struct Told {
     pub gate: Gate,
     pub difference: i32,
@@ -191,7 +193,7 @@ pub fn code_at(bytes: &[u8], bin: u16, i: usize) -> u16
 
 // ---- a row
 
-#[derive(Drop)]
+#[derive(Clone, Copy)]
 pub enum RowAnswer {
     Filled(usize),
     Refused(u32),
@@ -272,7 +274,7 @@ pub fn row(bytes: &[u8], bin: u16, c: Coding, kinds: &mut [u8], hundredths: &mut
 
 // ---- counts
 
-#[derive(Drop)]
+#[derive(Clone, Copy)]
 pub struct Counts {
     pub below: u64,
     pub folded: u64,

@@ -1,4 +1,6 @@
 // The generic header block (table 2-2): 32 bytes, every one of them in a field. INT, SHORT and FLOAT fields are carried as their bits.
+#![tactic(auto)]
+
 ghost use Rattle.std.specs.Prelude.{◌≡◌, ◌+◌, ◌≤◌, length};
 ghost use Rattle.le.specs.Le.{stored, patch, int};
 ghost use Rattle.rules.specs.Ranges.{is};
@@ -6,7 +8,7 @@ ghost use Rattle.generic.specs.Generic.{generic_of, generic_at, generic_bytes, g
 
 use rules::check::{Check, also};
 
-#[derive(Drop)]
+#[derive(Clone, Copy)]
 pub struct Generic {
     pub magic: u32,
     pub major: u16,

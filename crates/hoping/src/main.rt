@@ -2,6 +2,8 @@
 // other: each keeps the start of the one before it and goes on with bytes of its own. It comes as two numbers of four little-endian
 // bytes, how many bytes it keeps and how many are its own, and then these. A line for each: its number, and what reading tells, the
 // verdict, the bytes read and the whole radials.
+#![tactic(auto)]
+
 use libc::STDIN_FILENO;
 use printing::{bare, behind, first, print_reading, word};
 

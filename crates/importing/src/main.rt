@@ -4,6 +4,8 @@
 // it, so that no byte is stored unseen. Of the input 2,163,120 bytes are taken, enough for our records of 256 cuts and an old file of
 // 2,097,152 bytes, and a room has up to 4,169,072 bytes, enough for any volume of these. What is longer is not looked at, and neither is a
 // case that the input ends in.
+#![tactic(auto)]
+
 mod gates_told;
 mod telling;
 

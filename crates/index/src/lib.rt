@@ -1,4 +1,6 @@
 // The house index of a file (document 01): written into a lent room, told right or wrong for a file, and read.
+#![tactic(auto)]
+
 ghost use Rattle.std.specs.Prelude.{◌≡◌};
 ghost use Rattle.index.specs.Answer.{Writes, right_for};
 ghost use Rattle.index.specs.Making.{layout_for, layout_of};
@@ -11,7 +13,7 @@ use task::Task;
 mod making;
 pub mod said;
 
-#[derive(Drop)]
+#[derive(Clone, Copy)]
 pub enum Answer {
     // The index's length.
     Written(usize),
@@ -20,7 +22,7 @@ pub enum Answer {
 }
 
 // What there is to put into a room, or to find in an index.
-#[derive(Drop)]
+#[derive(Clone, Copy)]
 enum Layout {
     Fits {
         cuts: u32,

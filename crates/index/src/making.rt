@@ -14,7 +14,7 @@ use cut::Cut;
 use radial::Radial;
 use walk::due::cut_place;
 
-#[derive(Drop)]
+#[derive(Clone, Copy)]
 enum Entry {
     // The count of a cut that has no further radial.
     Count,

@@ -1,5 +1,7 @@
 // Little-endian numbers and runs of bytes in a slice, read and written. Every function is total: a byte past the end
 // reads 0, and what does not fit is not written.
+#![tactic(auto)]
+
 ghost use Rattle.std.specs.Prelude.{[], ◌≡◌, ◌+◌, ◌*◌, ◌≤◌, ◌<◌, leb, length, get_or};
 ghost use Rattle.le.specs.Le.{le, bytes, part, patch, stored, run, int, short};
 

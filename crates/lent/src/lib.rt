@@ -1,5 +1,7 @@
 // The tally as a caller is given it: in a record that the caller lends. The work is done by value; over the lent record
 // stands one thin function, and a second one with plain parameters lends it a record of its own.
+#![tactic(auto)]
+
 ghost use Rattle.std.specs.Prelude.{◌≡◌};
 ghost use Rattle.ask.specs.Tallies.{tally_answer};
 ghost use Rattle.lent.specs.Lending.{lent_of};
@@ -9,7 +11,7 @@ use ask::tallies::{Tally, TallyAnswer};
 use wedge::Wedge;
 
 // What the caller has afterwards: the number, 0 where there is a tally, and the contents of the record.
-#[derive(Drop)]
+#[derive(Clone, Copy)]
 pub struct Lent {
     pub number: u32,
     pub tally: Tally,

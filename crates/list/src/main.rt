@@ -1,4 +1,6 @@
 // Prints the listing of the file on standard input (document 01, the listing program).
+#![tactic(auto)]
+
 use libc::STDIN_FILENO;
 
 // A longer file is cut to the buffer's 65,536 bytes.

@@ -1,5 +1,7 @@
 // The lines of a file's listing as their numbers, one at a time, so that a program has only to print them (document 01,
 // the listing program): every whole radial, each with its moments behind it.
+#![tactic(auto)]
+
 ghost use Rattle.std.specs.Prelude.{◌≡◌, ◌+◌, ◌<◌, ◌^◌};
 ghost use Rattle.gates.specs.Codes.{gates_in};
 ghost use Rattle.moment.specs.Moment.{moment_size};
@@ -12,7 +14,7 @@ use reading::{Onward, Stretch};
 use walk::due::Walk;
 
 // A line's numbers, in the order in which they are printed.
-#[derive(Drop)]
+#[derive(Clone, Copy)]
 pub enum Line {
     Radial {
         sequence: u32,
@@ -29,14 +31,14 @@ pub enum Line {
 }
 
 // Where the listing goes on: the walk behind the present radial, that radial's stretch, and its moments still to come.
-#[derive(Drop)]
+#[derive(Clone, Copy)]
 pub struct Cursor {
     pub walk: Walk,
     pub stretch: Stretch,
     pub place: Place,
 }
 
-#[derive(Drop)]
+#[derive(Clone, Copy)]
 pub enum Next {
     // A line, and the cursor behind it.
     There(Line, Cursor),

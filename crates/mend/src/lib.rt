@@ -1,6 +1,8 @@
 // A broken volume closed (document 02, #107): from any file, the longest complete volume that is made of its leading whole radials.
 // All or nothing: one pass over the radials finds the last that is kept, which decides everything; then two runs of bytes are
 // copied, and two fields changed.
+#![tactic(auto)]
+
 ghost use Rattle.mend.specs.Mend.{Mends};
 
 mod keep;
@@ -12,7 +14,7 @@ use crate::lay::{lay, size_of};
 use crate::report::{Report, report_of};
 use reading::Found;
 
-#[derive(Drop)]
+#[derive(Clone, Copy)]
 pub enum Mended {
     // The length of the volume at the front of the room, and what was changed and left out.
     Written(usize, Report),

@@ -7,7 +7,7 @@ use radial::Radial;
 use reading::Stretch;
 
 // A changed field: its place in the given file and in the written one, what it held and what it holds.
-#[derive(Drop)]
+#[derive(Clone, Copy)]
 pub struct Change {
     pub place: usize,
     pub written: usize,
@@ -15,14 +15,14 @@ pub struct Change {
     pub new: u32,
 }
 
-#[derive(Drop)]
+#[derive(Clone, Copy)]
 pub enum Field {
     // Its contents stay, and it is not named.
     Same,
     Changed(Change),
 }
 
-#[derive(Drop)]
+#[derive(Clone, Copy)]
 pub struct Report {
     // The task's cut number.
     pub cut_number: Field,

@@ -3,6 +3,8 @@
 // little-endian. Then the file. Each of its starts from that length on is mended, the last being the whole file, in a room that is filled
 // with AA before. Of the input 2,097,168 bytes are taken, enough for a file of 2,097,152 bytes, and a room has up to 2,097,152 bytes,
 // enough for any volume of these. What is longer is not looked at, and neither is a case that the input ends in.
+#![tactic(auto)]
+
 mod telling;
 mod words;
 

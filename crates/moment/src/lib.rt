@@ -1,4 +1,6 @@
 // The moment header block (table 3-2): 32 bytes, every one of them in a field. INT, SHORT and FLOAT fields are carried as their bits.
+#![tactic(auto)]
+
 ghost use Rattle.std.specs.Prelude.{◌≡◌, ◌+◌, ◌≤◌, length, pos};
 ghost use Rattle.le.specs.Le.{stored, patch, int};
 ghost use Rattle.rules.specs.Ranges.{among};
@@ -7,7 +9,7 @@ ghost use Rattle.moment.specs.Moment.{moment_of, moment_at, moment_bytes, moment
 use rules::check::{Check, also, also_clauses};
 use rules::{masks, tiling};
 
-#[derive(Drop)]
+#[derive(Clone, Copy)]
 pub struct Moment {
     pub data_type: u32,
     pub scale: u32,
@@ -20,7 +22,7 @@ pub struct Moment {
 
 // What the blocks before a moment settle for it: its cut's masks, the types that its radial has shown, the bytes of
 // data left in the radial and the moments still to come, this one among them.
-#[derive(Drop)]
+#[derive(Clone, Copy)]
 pub struct MomentDue {
     pub mask: u64,
     pub sizes: u64,

@@ -1,5 +1,7 @@
 // The moments of one radial, read from that radial's own stretch of the file (document 01, "What reading tells"): the
 // radial header, then, as often as it says, a moment header and its data. A moment is known by its header's place.
+#![tactic(auto)]
+
 ghost use Rattle.std.specs.Prelude.{◌≡◌, ◌+◌, ◌≤◌, length};
 ghost use Rattle.moment.specs.Moment.{moment_at, moment_size};
 ghost use Rattle.moments.specs.Moments.{first_of, ahead_of, find_in, moments_of, data_at};
@@ -8,20 +10,20 @@ use moment::Moment;
 use radial::Radial;
 
 // The moments still to come, and where the header of the next one is sought.
-#[derive(Drop)]
+#[derive(Clone, Copy)]
 pub struct Place {
     pub todo: usize,
     pub at: usize,
 }
 
 // What a place leads to: the place of a moment's header and the place to go on from, or no moment more.
-#[derive(Drop)]
+#[derive(Clone, Copy)]
 pub enum Ahead {
     There(usize, Place),
     End,
 }
 
-#[derive(Drop)]
+#[derive(Clone, Copy)]
 pub enum Found {
     At(usize),
     Nowhere,

@@ -1,6 +1,7 @@
 // Runs the numbers of document 01 that are run ("Numbers to try"), the four angles by their bits (document 02, #105), and an RHI of
 // six layers (document 02, #103) and a cloud radar's file, which follow each other on standard input: for each file, a line of
 // what reading tells, its verdict, the bytes read and the whole radials; of the angles the verdict alone.
+#![tactic(auto)]
 
 mod angles;
 

@@ -6,7 +6,7 @@ ghost use Rattle.old.specs.Codes.{new_code, new_bytes, coding_of};
 use gates::Coding;
 
 // The three moments of an old radial.
-#[derive(Drop)]
+#[derive(Clone, Copy)]
 pub enum Quantity {
     Reflectivity,
     Velocity,

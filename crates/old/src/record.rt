@@ -7,7 +7,7 @@ ghost use Rattle.old.specs.Old.{old_of, old_at, old_check, counts_clauses, resol
 use crate::clock;
 use rules::check::{Check, also, also_clauses};
 
-#[derive(Drop)]
+#[derive(Clone, Copy)]
 pub struct OldRadial {
     pub mark: u16,
     pub milliseconds: u32,

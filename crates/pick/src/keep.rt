@@ -10,7 +10,7 @@ use reading::Stretch;
 use rules::masks;
 
 // How many they are, and how many bytes they have, headers and data.
-#[derive(Drop)]
+#[derive(Clone, Copy)]
 pub(crate) struct Kept {
     pub moments: usize,
     pub bytes: usize,

@@ -1,6 +1,8 @@
 // Only the moments asked for (document 02, #111): from a complete volume, the volume with its moments of the wanted types and no others.
 // All or nothing: one pass over the blocks decides everything; one over the headers then lays the volume down, each wanted moment in one
 // run.
+#![tactic(auto)]
+
 ghost use Rattle.pick.specs.Pick.{Picks};
 
 mod keep;
@@ -10,7 +12,7 @@ mod plan;
 use crate::lay::lay;
 use crate::plan::{Plan, plan_of};
 
-#[derive(Drop)]
+#[derive(Clone, Copy)]
 pub enum Picked {
     // The length of the volume at the front of the room.
     Written(usize),

@@ -10,7 +10,7 @@ use radial::Radial;
 use reading::{Found, Onward, Stretch};
 use walk::due::{Walk, is_end};
 
-#[derive(Drop)]
+#[derive(Clone, Copy)]
 pub(crate) enum Plan {
     // Every radial has a wanted moment: how many radials there are, and how many bytes the volume has.
     Fits { radials: usize, size: usize },

@@ -3,6 +3,8 @@
 // each with eight; then the file, which is picked by the first mask. Of the input 2,097,180 bytes are taken, enough for a file of
 // 2,097,152 bytes, and a room has up to 2,097,152 bytes, enough for any volume of these. What is longer is not looked at, and neither is a
 // case that the input ends in.
+#![tactic(auto)]
+
 mod telling;
 mod words;
 

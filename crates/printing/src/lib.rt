@@ -1,5 +1,7 @@
 // What the programs share: words, numbers, counts and listings on standard output, the start and the rest of a slice, and a room filled
 // and shown in one number.
+#![tactic(auto)]
+
 ghost use Rattle.std.specs.Prelude.{◌≡◌, nat_abs, length, take, drop, replicate};
 ghost use Rattle.printing.specs.Sum.{mixed_of, sum_from};
 

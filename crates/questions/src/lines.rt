@@ -7,7 +7,7 @@ use moment::Moment;
 use printing::{bare, newline, number, word};
 use radial::Radial;
 
-#[derive(Drop)]
+#[derive(Clone, Copy)]
 pub(crate) enum Question {
     Moments,
     Gates,

@@ -3,6 +3,7 @@
 // prints the answers. The places named below are those of the volume `rich` of tools/volumes.py, of 2,535 bytes, eight radials and
 // three cuts; the volume behind it is `layers`, of 3,360 bytes, an RHI of six cuts with two radials each, and one more in the last;
 // the last one is `valley`, two cuts with a radial at each azimuth that a wedge may turn on.
+#![tactic(auto)]
 
 mod gates_told;
 mod lines;

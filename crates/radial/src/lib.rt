@@ -1,4 +1,6 @@
 // The radial header block (table 3-1): 64 bytes, every one of them in a field. INT, SHORT and FLOAT fields are carried as their bits.
+#![tactic(auto)]
+
 ghost use Rattle.std.specs.Prelude.{◌≡◌, ◌+◌, ◌≤◌, length, pos};
 ghost use Rattle.le.specs.Le.{stored, patch, int};
 ghost use Rattle.rules.specs.Check.{breaks};
@@ -8,7 +10,7 @@ ghost use Rattle.radial.specs.Radial.{radial_of, radial_at, radial_bytes, radial
 use rules::check::{Check, also, also_clauses};
 use rules::{angles, ranges, states, tiling};
 
-#[derive(Drop)]
+#[derive(Clone, Copy)]
 pub struct Radial {
     pub state: u32,
     pub spot_blank: u32,
@@ -25,7 +27,7 @@ pub struct Radial {
 }
 
 // What the blocks before a radial settle for it: its volume and cut, and the radials counted so far.
-#[derive(Drop)]
+#[derive(Clone, Copy)]
 pub struct RadialDue {
     pub scan_type: u32,
     pub cuts: u32,

@@ -1,4 +1,6 @@
 // What reading tells, and the way from whole radial to whole radial.
+#![tactic(auto)]
+
 ghost use Rattle.std.specs.Prelude.{◌≡◌, ◌≤◌, length};
 ghost use Rattle.reading.specs.Reading.{Tells, fuel, last, stop, advance_of, stretches, nth, bytes_of};
 
@@ -11,7 +13,7 @@ use crate::step::{Step, step_at};
 use crate::whole::radial_from;
 use walk::due::{Due, Walk, ends_radial};
 
-#[derive(Drop)]
+#[derive(Clone, Copy)]
 pub enum Verdict {
     Complete,
     // The bytes missing from the block that is due.
@@ -20,7 +22,7 @@ pub enum Verdict {
     Refused(u32, usize),
 }
 
-#[derive(Drop)]
+#[derive(Clone, Copy)]
 pub struct Reading {
     pub verdict: Verdict,
     // The end of the last accepted block.
@@ -30,14 +32,14 @@ pub struct Reading {
 }
 
 // The bytes of a whole radial, from its header's first to its last data's end, and its cut.
-#[derive(Drop)]
+#[derive(Clone, Copy)]
 pub struct Stretch {
     pub start: usize,
     pub end: usize,
     pub cut: u32,
 }
 
-#[derive(Drop)]
+#[derive(Clone, Copy)]
 pub enum Onward {
     // A further radial is whole: its stretch, and the walk after it.
     Whole(Stretch, Walk),
@@ -45,7 +47,7 @@ pub enum Onward {
     Stopped(Walk),
 }
 
-#[derive(Drop)]
+#[derive(Clone, Copy)]
 pub enum Found {
     There(Stretch),
     Nowhere,

@@ -19,7 +19,7 @@ use task::Task;
 use walk::due::{Due, Walk, cut_place, is_end, size_at};
 use walk::{after, hope};
 
-#[derive(Drop)]
+#[derive(Clone, Copy)]
 pub enum Step {
     // The due block is there and keeps its rules: the walk after it.
     Took(Walk),

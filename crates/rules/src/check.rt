@@ -4,7 +4,7 @@ ghost use Rattle.rules.specs.Check.{also as also_of, breaks as breaks_of};
 
 // A clause of the table: the refusal's number, which of its field's clauses it is, in the table's order from 1, and the field, by its
 // place in the block and its size in bytes.
-#[derive(Drop)]
+#[derive(Clone, Copy)]
 pub struct Clause {
     pub number: u32,
     pub which: u8,
@@ -12,7 +12,7 @@ pub struct Clause {
     pub size: u8,
 }
 
-#[derive(Drop)]
+#[derive(Clone, Copy)]
 pub enum Check {
     Fine,
     // The first broken rule's first broken clause.

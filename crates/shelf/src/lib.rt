@@ -1,5 +1,7 @@
 // The import of an old shelf (document 02, #102): our records and the radials of an old file, written as a volume through our writer. All
 // or nothing: everything is settled in a first pass, which looks at the headers alone, and the second lays the bytes down.
+#![tactic(auto)]
+
 ghost use Rattle.writer.specs.Put.{Puts};
 ghost use Rattle.shelf.specs.Import.{import_of};
 

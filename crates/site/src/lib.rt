@@ -1,4 +1,6 @@
 // The site block (table 2-3): 128 bytes, every one of them in a field. INT, SHORT and FLOAT fields are carried as their bits.
+#![tactic(auto)]
+
 ghost use Rattle.std.specs.Prelude.{◌≡◌, ◌+◌, ◌≤◌, length};
 ghost use Rattle.le.specs.Le.{stored, patch};
 ghost use Rattle.site.specs.Site.{site_of, site_at, site_bytes, site_size, site_check};
@@ -6,7 +8,7 @@ ghost use Rattle.site.specs.Site.{site_of, site_at, site_bytes, site_size, site_
 use rules::angles;
 use rules::check::{Check, also};
 
-#[derive(Drop)]
+#[derive(Clone, Copy)]
 pub struct Site {
     pub code: [u8; 8],
     pub name: [u8; 32],

@@ -2,6 +2,8 @@
 // little-endian bytes each, the cut, the type and the wedge's start and end; then the volume, at most 2,097,152 bytes. A tally is
 // printed as one line below its names, with what is told of the volume, since whole radials are counted whatever that is; a refusal
 // as its number and place and, in the next line, in words. A longer volume is not asked.
+#![tactic(auto)]
+
 ghost use Rattle.std.specs.Prelude.{◌≡◌, length};
 
 use ask::tallies;

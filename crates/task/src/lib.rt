@@ -1,4 +1,6 @@
 // The task block (table 2-4): 256 bytes, every one of them in a field. INT, SHORT and FLOAT fields are carried as their bits.
+#![tactic(auto)]
+
 ghost use Rattle.std.specs.Prelude.{◌≡◌, ◌+◌, ◌≤◌, length, pos};
 ghost use Rattle.le.specs.Le.{stored, patch, int};
 ghost use Rattle.rules.specs.Ranges.{among};
@@ -7,7 +9,7 @@ ghost use Rattle.task.specs.Task.{task_of, task_at, task_bytes, task_size, task_
 use rules::check::{Check, also, also_clauses};
 use rules::{ranges, states};
 
-#[derive(Drop)]
+#[derive(Clone, Copy)]
 pub struct Task {
     pub name: [u8; 32],
     pub description: [u8; 128],

@@ -9,7 +9,7 @@ use radial::{Radial, RadialDue};
 use site::Site;
 use task::Task;
 
-#[derive(Drop)]
+#[derive(Clone, Copy)]
 pub enum Due {
     Generic,
     Site,
@@ -22,14 +22,14 @@ pub enum Due {
 }
 
 // What the task says.
-#[derive(Drop)]
+#[derive(Clone, Copy)]
 pub struct Plan {
     pub scan_type: u32,
     pub cuts: u32,
 }
 
 // The cut that radials belong to, from 1, the whole radials, and the radials of the cut.
-#[derive(Drop)]
+#[derive(Clone, Copy)]
 pub struct Count {
     pub cut: u32,
     pub whole: usize,
@@ -37,7 +37,7 @@ pub struct Count {
 }
 
 // The present radial: its place, state and sequence number, and its cut's masks.
-#[derive(Drop)]
+#[derive(Clone, Copy)]
 pub struct Present {
     pub start: usize,
     pub state: u32,
@@ -48,7 +48,7 @@ pub struct Present {
 
 // What is still to come: cut blocks or moments; the radial's bytes of data, the types that it has shown; and the length
 // of the data that is due.
-#[derive(Drop)]
+#[derive(Clone, Copy)]
 pub struct Rest {
     pub todo: usize,
     pub left: usize,
@@ -56,7 +56,7 @@ pub struct Rest {
     pub length: usize,
 }
 
-#[derive(Drop)]
+#[derive(Clone, Copy)]
 pub struct Walk {
     pub due: Due,
     pub at: usize,

@@ -1,5 +1,7 @@
 // A wedge of azimuths, and whether an azimuth lies in it (document 02, #114): by the exact value of the single, on its bits and with
 // whole numbers alone.
+#![tactic(auto)]
+
 ghost use Rattle.std.specs.Prelude.{◌≡◌, true, Float};
 ghost use Rattle.std.specs.Float.{binary32};
 ghost use Rattle.std.specs.Float.Ieee.{of_bits};
@@ -10,7 +12,7 @@ use rules::angles;
 
 // From the start, counted in, to the end, left out, in hundredths of a degree; through north where the end is not above the
 // start, and the full circle where the two are equal.
-#[derive(Drop)]
+#[derive(Clone, Copy)]
 pub struct Wedge {
     pub start: u32,
     pub end: u32,

@@ -1,7 +1,7 @@
 // An angle in hundredths of a degree, from the bits of its IEEE single with no float operation (document 02, #105).
 ghost use Rattle.std.specs.Prelude.{◌<◌};
 
-#[derive(Drop)]
+#[derive(Clone, Copy)]
 pub(crate) enum Angle {
     // Below 1,048,576 degrees: its size in whole hundredths, cut, and whether that is all of it.
     Hundredths {

@@ -2,6 +2,7 @@
 // and its bytes; then each question, by its radial, its type and its gate. Each of these numbers has four bytes, little-endian. Without a
 // question it is told why the file is refused, else why each gate is as it is. An empty line parts two answers. Of the input 2,097,172
 // bytes are taken, enough for a volume of 2,097,152 bytes and a question; a longer one is not looked at.
+#![tactic(auto)]
 
 mod angles;
 mod numbers;

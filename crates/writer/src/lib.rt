@@ -1,6 +1,8 @@
 // The writer (document 01, "Writing"): one block at a time, onto what a room holds already. Its state is the walk that
 // reading what is written stops at. Each function below believes neither state nor room: it reads what is written first.
 // A state that was lost is found again from the written bytes, by `state_of`.
+#![tactic(auto)]
+
 ghost use Rattle.std.specs.Prelude.{◌≡◌};
 ghost use Rattle.reading.specs.Reading.{stop};
 ghost use Rattle.writer.specs.Block.{generic, site, task, cut, radial, moment, «data»};

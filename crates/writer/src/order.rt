@@ -7,7 +7,7 @@ ghost use Rattle.writer.specs.Put.{last_tests, checked as checked_of, answer_to,
 use reading::step::Step;
 use walk::due::{Due, Walk, is_end};
 
-#[derive(Drop)]
+#[derive(Clone, Copy)]
 pub enum Answer {
     // The block is stored where the written bytes end.
     Taken,
@@ -16,7 +16,7 @@ pub enum Answer {
 }
 
 // The answer, and the state from now on: after a refusal, the state as it was.
-#[derive(Drop)]
+#[derive(Clone, Copy)]
 pub struct Put {
     pub answer: Answer,
     pub walk: Walk,

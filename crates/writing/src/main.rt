@@ -1,5 +1,7 @@
 // Writes volumes of several shapes, one block at a time, and their indexes; then drives each refusal of the writer and
 // of the index once (document 01, "Writing" and "The house index").
+#![tactic(auto)]
+
 mod many;
 mod records;
 mod refusals;

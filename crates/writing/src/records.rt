@@ -45,7 +45,7 @@ pub(crate) fn cut() -> Cut {
 }
 
 // What is told apart from radial to radial. Its moments: 1 is one of one-byte gates, 2 one of two-byte gates, 3 both.
-#[derive(Drop)]
+#[derive(Clone, Copy)]
 pub(crate) struct Facts {
     pub(crate) moments: u8,
     pub(crate) state: u8,
