@@ -5,22 +5,15 @@ use borrow.Author.Rules.{rules}
 use native.Mathlib.Omega.{arith}
 use Rattle.le.specs.Le.{bytes}
 use Rattle.le.proofs.Laws.{patch-join, length-bytes, bytes_cut, bytes_low}
-use Rattle.le.proofs.put_u64_here.Statement.{statement}
-use Rattle.le.proofs.put_u64_here.Tie as tie
+use Rattle.le.proofs.put_u64_here.Goals as goal
 
-returns : tie.Need-returns
+pub returns : goal.returns
 returns c =
-    let s = c.before.before.before.before.before.before.before.before.before in
-    let f = s.args.room.now in
-    let at = s.args.at in
-    let x = s.args.x in
+    let f = c.args.room.now in
+    let at = c.args.at in
+    let x = c.args.x in
     let e1 = length-bytes 4 (x % 256 ^ 4) in
     let e2 = length-bytes 4 (x / 256 ^ 4) in
     let j = patch-join f at 4 (bytes 4 (x % 256 ^ 4)) (bytes 4 (x / 256 ^ 4)) e1 (omega arith) in
     let b : bytes 8 x ≡ bytes 4 (x % 256 ^ 4) ++ bytes 4 (x / 256 ^ 4) = bytes_cut 4 4 x ∙ rw (bytes_low 4 x) in
     cc
-
-pub put-u64-here-spec : {M : Type 1} → statement M
-put-u64-here-spec =
-    tie.close
-    (tie.spec (λ c. search rules) (λ c κs. search rules) (λ c. search rules) (λ c. search rules) (λ c κs. search rules) (λ c. search rules) returns)

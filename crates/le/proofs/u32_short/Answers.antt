@@ -1,0 +1,14 @@
+use mathlib.Core.Path.{sym}
+use native.Mathlib.Omega.{arith}
+use native.Mathlib.Nat.{add_assoc}
+use borrow.Author.Rules.{rules}
+use Rattle.le.specs.Le.{le}
+use Rattle.le.proofs.Laws.{le-beyond}
+use Rattle.le.proofs.u32_short.Goals as goal
+
+pub returns-then-s-at : goal.returns-then-s-at
+returns-then-s-at c = sym (le-beyond 4 c.args.s.now c.args.at c.if-s-at.true)
+
+pub returns : goal.returns
+unfolding le
+returns c = simp add_assoc (omega arith)
