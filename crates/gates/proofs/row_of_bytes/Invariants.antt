@@ -1,0 +1,16 @@
+-- The loop's invariant: the first i places of either buffer are filled. Assumes nothing.
+use mathlib.Core.Path.{ap, ◌∙◌}
+use Prim.Native.Nat.{ℕ, ◌-◌, ◌≤◌, ◌<◌}
+use native.Mathlib.Omega.{arith}
+use borrow.Author.Rules.{rules, sfits_of}
+use lib.ListN.{length, get_or}
+use mir.Facts.{to_z-of_z}
+use Rattle.gates.specs.Gates.{Carried}
+use Rattle.gates.proofs.Rows.{Begun, begun-none, begun-turn, begun_all}
+use Rattle.gates.proofs.row_of_bytes.Given as goal
+
+abbrev pub invariant-loop-i : goal.invariant-loop-i
+invariant-loop-i l = (l.i ≤ length l.bytes) × Begun l.c l.bytes l.initial.kinds l.initial.hundredths l.i l.kinds l.hundredths
+
+abbrev pub decreases-loop-i : goal.decreases-loop-i
+decreases-loop-i l = length l.bytes - l.i
