@@ -4,6 +4,7 @@ use Prim.Native.Nat.{ℕ, ◌-◌, ◌≤◌, ◌<◌}
 use native.Mathlib.Omega.{arith}
 use borrow.Author.Rules.{rules, sfits_of}
 use lib.ListN.{length, get_or}
+use mir.Syntax.{w32}
 use mir.Facts.{to_z-of_z}
 use Rattle.gates.specs.Gates.{Carried}
 use Rattle.gates.proofs.Rows.{Begun, begun-none, begun-turn, begun_all}
@@ -23,7 +24,7 @@ loop-i-preserved c =
       omega arith,
       begun-turn a.c a.bytes.now a.kinds.now a.hundredths.now _ _ c.loop-i.invariant.1 (omega arith) (omega arith) (omega arith)
           (c.kind.ensures ∙ ap (λ (t : ℕ × Carried). t.0) c.gate_of-gate.ensures)
-          (to_z-of_z (sfits_of c.hundredths-1.given) ∙ c.table-t.ensures.entry (get_or a.bytes.now c.loop-i.i 0) (byte c)),
+          (to_z-of_z {w = w32} (sfits_of c.hundredths-1.given) ∙ c.table-t.ensures.entry (get_or a.bytes.now c.loop-i.i 0) (byte c)),
     )
 
 pub returns : goal.returns

@@ -4,6 +4,7 @@ use Prim.Native.Nat.{ℕ, ◌-◌, ◌≤◌}
 use native.Mathlib.Omega.{arith}
 use borrow.Author.Rules.{rules, sfits_of}
 use lib.ListN.{get_or}
+use mir.Syntax.{w32}
 use mir.Facts.{to_z-of_z}
 use Rattle.gates.specs.Gates.{told_of, Values, values_of}
 use Rattle.gates.specs.Codes.{codes_of}
@@ -25,7 +26,7 @@ loop-i-preserved c =
       omega arith,
       begun-turn a.c codes a.kinds.now a.hundredths.now _ _ c.loop-i.invariant.1 (omega arith) (omega arith) (omega arith)
           (c.kind.ensures ∙ ap (λ (v : Values). v.gate.0) told)
-          (to_z-of_z (sfits_of c.struct_told-1.given.1.1.1.0.1) ∙ ap (λ (v : Values). v.hundredths) told),
+          (to_z-of_z {w = w32} (sfits_of c.struct_told-1.given.1.1.1.0.1) ∙ ap (λ (v : Values). v.hundredths) told),
     )
 
 pub returns : goal.returns

@@ -8,6 +8,7 @@ use borrow.Author.Rules.{rules, sfits_of}
 use lib.IntN.{pos}
 use lib.ListN.{length, get_or, length-set}
 use lib.Seq.{get_or-set_same, get_or-set_other}
+use mir.Syntax.{w32}
 use mir.Facts.{to_z-of_z}
 use Rattle.gates.specs.Gates.{Values}
 use Rattle.gates.specs.Rows.{shown_of}
@@ -23,7 +24,7 @@ loop-code-preserved c =
       simp length-set c.loop-code.invariant.1,
       below_more _ _
           (λ j h. get_or-set_other c.loop-code.t c.loop-code.code j _ (pos 0) (ne_of_lt h) ∙ c.loop-code.invariant.2 j h)
-          (get_or-set_same c.loop-code.t c.loop-code.code _ (pos 0) there ∙ to_z-of_z (sfits_of c.struct_told-1.given.1.1.1.0.1) ∙ ap (λ (v : Values). v.hundredths) c.tell-told.ensures),
+          (get_or-set_same c.loop-code.t c.loop-code.code _ (pos 0) there ∙ to_z-of_z {w = w32} (sfits_of c.struct_told-1.given.1.1.1.0.1) ∙ ap (λ (v : Values). v.hundredths) c.tell-told.ensures),
     )
 
 pub returns : goal.returns
