@@ -1,14 +1,9 @@
 -- The loop's invariant: the first i gates are counted. Assumes nothing.
 use mathlib.Core.Path.{◌≡◌, ◌∙◌}
-use mathlib.Core.List.{map}
-use Prim.Native.Nat.{◌-◌, ◌≤◌}
 use native.Mathlib.Omega.{arith}
-use borrow.Author.Rules.{rules}
 use lib.ListN.{length, take}
 use lib.Seq.{take-length, length-take-le}
 use Rattle.gates.specs.Codes.{codes_of}
-use Rattle.gates.specs.Gates.{kind_of}
-use Rattle.gates.specs.Counting.{counts_of}
 use Rattle.gates.proofs.Counting.{counts-turn, counts_all}
 use Rattle.gates.proofs.counts_of.Goals as goal
 

@@ -1,5 +1,4 @@
 use native.Mathlib.Omega.{arith}
-use borrow.Author.Rules.{rules}
 use mir.Syntax.{w32}
 use Rattle.gates.proofs.Signs.{sub-fits, sub_back}
 use Rattle.gates.proofs.difference.Goals as goal

@@ -1,5 +1,4 @@
 use native.Mathlib.Omega.{arith}
-use borrow.Author.Rules.{rules}
 use Rattle.gates.specs.Gates.{gate_of}
 use Rattle.gates.proofs.Gates.{gate-other}
 use Rattle.gates.proofs.gate_of.Goals as goal

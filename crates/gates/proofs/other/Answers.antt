@@ -1,5 +1,4 @@
 use mathlib.Core.Path.{sym, ◌∙◌}
-use borrow.Author.Rules.{rules}
 use Rattle.gates.proofs.Gates.{other-value, other-class}
 use Rattle.gates.proofs.other.Goals as goal
 

@@ -1,5 +1,4 @@
 use native.Mathlib.Omega.{arith}
-use borrow.Author.Rules.{rules}
 use Rattle.gates.specs.Codes.{codes_of}
 use Rattle.gates.proofs.Codes.{codes-one, length-one}
 use Rattle.gates.proofs.Rows.{short-kinds, short-hundredths}

@@ -1,13 +1,13 @@
 -- The loop's invariant: the first i places of either buffer are filled. Assumes nothing.
 use mathlib.Core.Path.{ap, ◌∙◌}
-use Prim.Native.Nat.{ℕ, ◌-◌, ◌≤◌, ◌<◌}
+use Prim.Native.Nat.{ℕ, ◌<◌}
 use native.Mathlib.Omega.{arith}
-use borrow.Author.Rules.{rules, sfits_of}
-use lib.ListN.{length, get_or}
+use borrow.Author.Rules.{sfits_of}
+use lib.ListN.{get_or}
 use mir.Syntax.{w32}
 use mir.Facts.{to_z-of_z}
 use Rattle.gates.specs.Gates.{Carried}
-use Rattle.gates.proofs.Rows.{Begun, begun-none, begun-turn, begun_all}
+use Rattle.gates.proofs.Rows.{begun-none, begun-turn, begun_all}
 use Rattle.gates.proofs.row_of_bytes.Goals as goal
 
 pub loop-i-init : goal.loop-i-init

@@ -1,14 +1,14 @@
 -- The loop's invariant: the first i places of either buffer are filled. Assumes nothing.
 use mathlib.Core.Path.{◌≡◌, ap, ◌∙◌}
-use Prim.Native.Nat.{ℕ, ◌-◌, ◌≤◌}
+use Prim.Native.Nat.{ℕ}
 use native.Mathlib.Omega.{arith}
-use borrow.Author.Rules.{rules, sfits_of}
+use borrow.Author.Rules.{sfits_of}
 use lib.ListN.{get_or}
 use mir.Syntax.{w32}
 use mir.Facts.{to_z-of_z}
 use Rattle.gates.specs.Gates.{told_of, Values, values_of}
 use Rattle.gates.specs.Codes.{codes_of}
-use Rattle.gates.proofs.Rows.{Begun, begun-none, begun-turn, begun_all}
+use Rattle.gates.proofs.Rows.{begun-none, begun-turn, begun_all}
 use Rattle.gates.proofs.row_of_codes.Goals as goal
 
 pub loop-i-init : goal.loop-i-init

@@ -1,13 +1,7 @@
 -- The loop's invariant: the first i places of either buffer are filled. Assumes nothing.
-use mathlib.Core.Path.{◌≡◌, ap, ◌∙◌}
-use Prim.Native.Nat.{ℕ, ◌-◌, ◌≤◌}
-use native.Mathlib.Omega.{arith}
-use borrow.Author.Rules.{rules, sfits_of}
-use lib.ListN.{get_or}
-use mir.Facts.{to_z-of_z}
-use Rattle.gates.specs.Gates.{told_of, Values, values_of}
+use Prim.Native.Nat.{◌-◌, ◌≤◌}
 use Rattle.gates.specs.Codes.{codes_of}
-use Rattle.gates.proofs.Rows.{Begun, begun-none, begun-turn, begun_all}
+use Rattle.gates.proofs.Rows.{Begun}
 use Rattle.gates.proofs.row_of_codes.Given as goal
 
 abbrev pub invariant-loop-i : goal.invariant-loop-i

@@ -1,17 +1,16 @@
 -- The loop's invariant: the entries below `code` are right. Assumes nothing.
-use mathlib.Core.Path.{◌≡◌, refl, ap, ◌∙◌}
-use Prim.Native.Nat.{ℕ, ◌-◌, ◌≤◌, ◌<◌}
+use mathlib.Core.Path.{refl, ap, ◌∙◌}
+use Prim.Native.Nat.{◌<◌}
 use native.Mathlib.Nat.{ne_of_lt}
 use native.Mathlib.Omega.{arith}
 use borrow.Author.Count.{below_none, below_more}
-use borrow.Author.Rules.{rules, sfits_of}
+use borrow.Author.Rules.{sfits_of}
 use lib.IntN.{pos}
-use lib.ListN.{length, get_or, length-set}
+use lib.ListN.{length, length-set}
 use lib.Seq.{get_or-set_same, get_or-set_other}
 use mir.Syntax.{w32}
 use mir.Facts.{to_z-of_z}
 use Rattle.gates.specs.Gates.{Values}
-use Rattle.gates.specs.Rows.{shown_of}
 use Rattle.gates.proofs.table.Goals as goal
 
 pub loop-code-init : goal.loop-code-init

@@ -1,15 +1,8 @@
 -- The loop's invariant: the entries below `code` are right. Assumes nothing.
-use mathlib.Core.Path.{◌≡◌, refl, ap, ◌∙◌}
+use mathlib.Core.Path.{◌≡◌}
 use Prim.Native.Nat.{ℕ, ◌-◌, ◌≤◌, ◌<◌}
-use native.Mathlib.Nat.{ne_of_lt}
-use native.Mathlib.Omega.{arith}
-use borrow.Author.Count.{below_none, below_more}
-use borrow.Author.Rules.{rules, sfits_of}
 use lib.IntN.{pos}
-use lib.ListN.{length, get_or, length-set}
-use lib.Seq.{get_or-set_same, get_or-set_other}
-use mir.Facts.{to_z-of_z}
-use Rattle.gates.specs.Gates.{Values}
+use lib.ListN.{length, get_or}
 use Rattle.gates.specs.Rows.{shown_of}
 use Rattle.gates.proofs.table.Given as goal
 
