@@ -1,0 +1,24 @@
+use mathlib.Core.Path.{sym, ◌∙◌}
+use Prim.Native.Nat.{◌+◌}
+use borrow.Author.Rules.{rules}
+use borrow.Author.Tests.{leb-true}
+use lib.ListN.{length}
+use Rattle.le.proofs.Laws.{stored-yes, stored_no}
+use Rattle.cut.specs.Cut.{cut_bytes}
+use Rattle.cut.proofs.Cut.write.Goals as goal
+
+pub write_here-requires : goal.write_here-requires
+write_here-requires c =
+    let s = c.args in
+    leb-true (s.at + 256) (length s.room.now) (sym c.has.ensures ∙ c.if-has.true)
+
+pub returns-then-has : goal.returns-then-has
+returns-then-has c =
+    let s = c.args in
+    c.write_here.ensures
+    ∙ sym (stored-yes 256 s.room.now s.at (cut_bytes s.self) (sym c.has.ensures ∙ c.if-has.true))
+
+pub returns-else-has : goal.returns-else-has
+returns-else-has c =
+    let s = c.args in
+    sym (stored_no 256 s.room.now s.at (cut_bytes s.self) (sym c.has.ensures ∙ c.if-has.false))
