@@ -1,0 +1,5 @@
+use borrow.Author.Rules.{rules}
+use Rattle.walk.proofs.after.cut.Goals as goal
+
+pub returns : goal.returns
+returns c = rw (c.less.ensures, c.due_if-due.ensures)

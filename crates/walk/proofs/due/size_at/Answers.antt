@@ -1,0 +1,35 @@
+use borrow.Author.Rules.{rules}
+use Rattle.walk.specs.Due.{size_at}
+use Rattle.walk.proofs.due.size_at.Goals as goal
+
+pub returns-in-Generic : goal.returns-in-Generic
+unfolding size_at
+returns-in-Generic c = rw c.in-Generic.is
+
+pub returns-in-Site : goal.returns-in-Site
+unfolding size_at
+returns-in-Site c = rw c.in-Site.is
+
+pub returns-in-Task : goal.returns-in-Task
+unfolding size_at
+returns-in-Task c = rw c.in-Task.is
+
+pub returns-in-Cut : goal.returns-in-Cut
+unfolding size_at
+returns-in-Cut c = rw c.in-Cut.is
+
+pub returns-in-Radial : goal.returns-in-Radial
+unfolding size_at
+returns-in-Radial c = rw c.in-Radial.is
+
+pub returns-in-Moment : goal.returns-in-Moment
+unfolding size_at
+returns-in-Moment c = rw c.in-Moment.is
+
+pub returns-in-Data : goal.returns-in-Data
+unfolding size_at
+returns-in-Data c = rw c.in-Data.is
+
+pub returns-in-Nothing : goal.returns-in-Nothing
+unfolding size_at
+returns-in-Nothing c = rw c.in-Nothing.is
