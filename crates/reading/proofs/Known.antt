@@ -4,11 +4,9 @@ use Prim.Native.Nat.{ℕ, ◌+◌, ◌-◌, ◌<◌, ◌≤◌}
 use native.Mathlib.Omega.{arith}
 use mathlib.Core.Path.{◌≡◌, refl, sym, ap, subst, subst⁻¹, ◌∙◌}
 use mathlib.Core.Bool.{true, false}
-use mathlib.Core.List.{List, [], ◌∷◌}
+use mathlib.Core.List.{List}
 use lib.ListN.{length, take}
 use borrow.Author.Tests.{eq-eqb, ne_eqb}
-use denote.Enum.Declared.{tag_of}
-use types.Run.{OneOf, miss}
 use Rattle.walk.specs.declared.due.Due.{Due}
 use Rattle.walk.specs.declared.due.Due.TheVariants as due
 use Rattle.walk.specs.declared.due.Walk.{Walk}
@@ -18,14 +16,13 @@ use Rattle.reading.specs.declared.step.Step.{Step}
 use Rattle.reading.specs.declared.step.Step.TheVariants.{Took, Open, Refused, Complete}
 use Rattle.reading.specs.Step.{take_radial, take_moment, block_at, say_block, step_of}
 use Rattle.reading.specs.Reading.{stretch, advance_if, advance_of}
-use Rattle.reading.specs.contracts.step.Step.{the_type}
 use Rattle.reading.proofs.Loops.{advance-step}
 use Rattle.reading.proofs.Run.{is-here, is-short, settle-took, took_more, taken, Stays}
 
 -- a step that took no block, as the code tells it from the others
-pub not-took : (s : Step) → OneOf (1 ∷ 2 ∷ 3 ∷ []) (tag_of the_type s) → Stays s
+pub not-took : (s : Step) → ((n : Walk) → s ≡ Took n → ⊥) → Stays s
 unfolding Stays
-not-took (Took n) h = absurd (miss (1 ∷ 2 ∷ 3 ∷ []) 0 tt h)
+not-took (Took n) h = absurd (h n refl)
 not-took (Open m) h = tt
 not-took (Refused n p) h = tt
 not-took Complete h = tt

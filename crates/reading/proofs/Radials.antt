@@ -265,7 +265,7 @@ tiled-end f mask sizes seen left zero at end t h = absurd (omega arith)
 tiled-end f mask sizes seen left (suc zero) at end (more g none) h = let l = (fits-left (moment_at f at) _ g).1 (omega arith) in omega arith
 tiled-end f mask sizes seen left (suc (suc k)) at end (more g r) h =
     let l = (fits-left (moment_at f at) _ g).0 in
-    let e = tiled-end f mask sizes _ _ (suc k) _ end r (omega arith) in
+    let e = tiled-end f mask sizes (with_bit seen (moment_at f at).data_type) (left - (32 + (moment_at f at).length)) (suc k) (at + 32 + (moment_at f at).length) end r (omega arith) in
     omega arith
 
 pub record Said (f : List ℕ) (s : Stretch) : Type 0 where

@@ -1,0 +1,15 @@
+-- The loop's walk has passed as many whole radials as `before` has come down. Assumes nothing.
+use mathlib.Core.Path.{◌≡◌, sym, ap, ◌∙◌}
+use Prim.Native.Nat.{suc, ◌-◌}
+use native.Mathlib.Omega.{arith}
+use borrow.Author.Rules.{rules}
+use Rattle.reading.specs.Reading.{stretches, trace, fuel, nth}
+use Rattle.reading.proofs.Run.{left}
+use Rattle.reading.proofs.Loops.{Further, further, no_more, found_first, found-later, found_none, found-zero}
+use Rattle.reading.proofs.find.Given as goal
+
+abbrev pub invariant-loop-stretch : goal.invariant-loop-stretch
+invariant-loop-stretch l = nth (stretches l.file) l.sequence ≡ nth (trace (fuel l.file) l.file l.w) (suc l.before)
+
+abbrev pub decreases-loop-stretch : goal.decreases-loop-stretch
+decreases-loop-stretch l = left l.file l.w

@@ -1,0 +1,17 @@
+-- The loop's walks are those of the reading. Assumes nothing.
+use mathlib.Core.Path.{◌≡◌, refl, sym, ◌∙◌}
+use mathlib.Core.Logic.{⊎_elim}
+use Prim.Native.Nat.{◌≤◌}
+use native.Mathlib.Omega.{arith}
+use borrow.Author.Rules.{rules}
+use lib.ListN.{length}
+use Rattle.reading.specs.Reading.{stop, last, fuel, advance_of}
+use Rattle.reading.proofs.Run.{left}
+use Rattle.reading.proofs.Loops.{Further, further}
+use Rattle.reading.proofs.read.Given as goal
+
+abbrev pub invariant-loop-next : goal.invariant-loop-next
+invariant-loop-next l = (l.w.at ≤ length l.file) × (stop l.file ≡ last (fuel l.file) l.file l.w)
+
+abbrev pub decreases-loop-next : goal.decreases-loop-next
+decreases-loop-next l = left l.file l.w
