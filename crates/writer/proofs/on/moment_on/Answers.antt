@@ -1,0 +1,14 @@
+use borrow.Author.Rules.{rules}
+use Rattle.writer.specs.Block.{moment}
+use Rattle.writer.proofs.Putting.{puts-taken, puts-refused}
+use Rattle.writer.proofs.on.moment_on.Goals as goal
+
+pub returns-in-Taken : goal.returns-in-Taken
+returns-in-Taken c =
+    let a = c.args in
+    puts-taken (moment a.r) a.w a.room.now c.moment-p.ensures c.in-Taken.is c.write.ensures
+
+pub returns-in-Refused : goal.returns-in-Refused
+returns-in-Refused c =
+    let a = c.args in
+    puts-refused (moment a.r) a.w a.room.now c.moment-p.ensures _ _ c.in-Refused.is

@@ -1,0 +1,14 @@
+use borrow.Author.Rules.{rules}
+use Rattle.writer.specs.Block.{site}
+use Rattle.writer.proofs.Putting.{puts-taken, puts-refused}
+use Rattle.writer.proofs.on.site_on.Goals as goal
+
+pub returns-in-Taken : goal.returns-in-Taken
+returns-in-Taken c =
+    let a = c.args in
+    puts-taken (site a.r) a.w a.room.now c.site-p.ensures c.in-Taken.is c.write.ensures
+
+pub returns-in-Refused : goal.returns-in-Refused
+returns-in-Refused c =
+    let a = c.args in
+    puts-refused (site a.r) a.w a.room.now c.site-p.ensures _ _ c.in-Refused.is

@@ -1,0 +1,14 @@
+use borrow.Author.Rules.{rules}
+use Rattle.writer.specs.Block.{cut}
+use Rattle.writer.proofs.Putting.{puts-agreed, puts-astray}
+use Rattle.writer.proofs.put_cut.Goals as goal
+
+pub returns-then-agrees : goal.returns-then-agrees
+returns-then-agrees c =
+    let a = c.args in
+    puts-agreed (cut a.r) a.w a.room.now c.agrees.ensures c.if-agrees.true c.cut_on.ensures
+
+pub returns : goal.returns
+returns c =
+    let a = c.args in
+    puts-astray (cut a.r) a.w a.room.now c.agrees.ensures c.if-agrees.false c.refused.ensures

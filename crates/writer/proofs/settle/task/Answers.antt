@@ -1,0 +1,9 @@
+use native.Mathlib.Omega.{arith}
+use borrow.Author.Rules.{rules}
+use Rattle.writer.proofs.Putting.{settled-in}
+use Rattle.writer.proofs.settle.task.Goals as goal
+
+pub returns : goal.returns
+returns c =
+    let a = c.args in
+    settled-in _ _ _ _ a.w _ c.task-says.ensures (omega arith) c.settled.ensures
