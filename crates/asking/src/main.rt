@@ -11,16 +11,18 @@ mod rooms;
 mod telling;
 mod words;
 
-ghost use Rattle.std.specs.Prelude.{◌≤◌, ◌<◌, length};
+ghost use Rattle.std.specs.Prelude.{◌≤◌, ◌<◌, length, IfOk};
 
 use crate::rooms::{unpack_eights, unpack_fours};
 use crate::telling::print_answer;
 use crate::words::{say_answer, say_written};
-use libc::STDIN_FILENO;
-use printing::{behind, first, word};
+use printing::{behind, first, read_full, word};
+use std::io;
+use std::io::Read;
 
 // A list in rooms that have as many entries as it says. What is wanted is 1 for the command line.
 fn ask(
+    out: &impl Print,
     file: &[u8],
     index: &[u8],
     list: &[u8],
@@ -30,7 +32,7 @@ fn ask(
     gates: &mut [usize],
     kinds: &mut [u8],
     hundredths: &mut [i32],
-) {
+) -> io::Result<()> {
     let from_radials = behind(list, 20);
     let from_types = behind(from_radials, 8 * radials.len());
     let from_gates = behind(from_types, 4 * types.len());
@@ -38,14 +40,15 @@ fn ask(
     unpack_fours(from_types, types);
     unpack_eights(from_gates, gates);
     if wanted == 1 {
-        say_answer(file, index, radials, types, gates, kinds, hundredths);
+        say_answer(out, file, index, radials, types, gates, kinds, hundredths)
     } else {
-        print_answer(file, index, radials, types, gates, kinds, hundredths);
+        print_answer(out, file, index, radials, types, gates, kinds, hundredths)
     }
 }
 
 // The rooms may be longer than the list says.
 fn ask_in(
+    out: &impl Print,
     file: &[u8],
     index: &[u8],
     list: &[u8],
@@ -55,7 +58,7 @@ fn ask_in(
     gates: &mut [usize],
     kinds: &mut [u8],
     hundredths: &mut [i32],
-) {
+) -> io::Result<()> {
     let r = le::u32_at(list, 0) as usize;
     let t = le::u32_at(list, 4) as usize;
     let g = le::u32_at(list, 8) as usize;
@@ -68,6 +71,7 @@ fn ask_in(
         && h <= hundredths.len()
     {
         ask(
+            out,
             file,
             index,
             list,
@@ -77,14 +81,15 @@ fn ask_in(
             &mut gates[..g],
             &mut kinds[..k],
             &mut hundredths[..h],
-        );
+        )
     } else {
-        word(b"too long\n");
+        word(out, b"too long\n")
     }
 }
 
 // The list at a place, and the place behind it, which is past the input where that ends in the list.
 fn list(
+    out: &impl Print,
     file: &[u8],
     index: &[u8],
     input: &[u8],
@@ -95,19 +100,20 @@ fn list(
     gates: &mut [usize],
     kinds: &mut [u8],
     hundredths: &mut [i32],
-) -> usize
+) -> io::Result<usize>
     requires { at ≤ length input.now }
-    ensures { at ≤ result }
+    ensures { IfOk result (λ next. at ≤ next) }
 {
     let eights = le::u32_at(input, at) as usize + le::u32_at(input, at + 8) as usize;
     let fours = le::u32_at(input, at + 4) as usize;
     let size = 20 + 8 * eights + 4 * fours;
     let next = at + size;
     if input.len() < next {
-        word(b"cut short\n");
-        return next;
+        word(out, b"cut short\n")?;
+        return Ok(next);
     }
     ask_in(
+        out,
         file,
         index,
         first(behind(input, at), size),
@@ -117,12 +123,13 @@ fn list(
         gates,
         kinds,
         hundredths,
-    );
-    next
+    )?;
+    Ok(next)
 }
 
 // So many lists from a place on, and the place behind them.
 fn lists(
+    out: &impl Print,
     file: &[u8],
     index: &[u8],
     input: &[u8],
@@ -134,33 +141,34 @@ fn lists(
     gates: &mut [usize],
     kinds: &mut [u8],
     hundredths: &mut [i32],
-) -> usize
-    ensures { from ≤ result }
+) -> io::Result<usize>
+    ensures { IfOk result (λ next. from ≤ next) }
 {
     let mut at = from;
     let mut left = count;
     while 0 < left {
         if input.len() < at {
-            return at;
+            return Ok(at);
         }
         at = list(
-            file, index, input, at, wanted, radials, types, gates, kinds, hundredths,
-        );
+            out, file, index, input, at, wanted, radials, types, gates, kinds, hundredths,
+        )?;
         left -= 1;
     }
-    at
+    Ok(at)
 }
 
 // Each array is made where it is lent, and not by a function that hands it over: that would need the stack for it twice.
 fn lists_in_rooms(
+    out: &impl Print,
     file: &[u8],
     index: &[u8],
     input: &[u8],
     from: usize,
     count: u32,
     wanted: u32,
-) -> usize
-    ensures { from ≤ result }
+) -> io::Result<usize>
+    ensures { IfOk result (λ next. from ≤ next) }
 {
     let mut radials = [0usize; 65536];
     let mut types = [0u32; 65536];
@@ -168,6 +176,7 @@ fn lists_in_rooms(
     let mut kinds = [0u8; 65536];
     let mut hundredths = [0i32; 65536];
     lists(
+        out,
         file,
         index,
         input,
@@ -183,43 +192,44 @@ fn lists_in_rooms(
 }
 
 // The room may be longer than was asked for.
-fn write_in(file: &[u8], room: &mut [u8], asked: usize) {
+fn write_in(out: &impl Print, file: &[u8], room: &mut [u8], asked: usize) -> io::Result<()> {
     if room.len() < asked {
-        word(b"too long\n");
+        word(out, b"too long\n")
     } else {
-        say_written(file, &mut room[..asked]);
+        say_written(out, file, &mut room[..asked])
     }
 }
 
-fn write(file: &[u8], asked: usize) {
+fn write(out: &impl Print, file: &[u8], asked: usize) -> io::Result<()> {
     let mut room = [0u8; 524807];
-    write_in(file, &mut room, asked);
+    write_in(out, file, &mut room, asked)
 }
 
 // The group at a place, and the place behind it, which is past the input where that ends in the group.
-fn group(input: &[u8], at: usize) -> usize
+fn group(out: &impl Print, input: &[u8], at: usize) -> io::Result<usize>
     requires { at < length input.now }
-    ensures { at < result }
+    ensures { IfOk result (λ next. at < next) }
 {
     let wanted = le::u32_at(input, at);
     let volume = le::u32_at(input, at + 4) as usize;
     let index = le::u32_at(input, at + 8) as usize;
     let behind_volume = at + 16 + volume;
     if input.len() < behind_volume {
-        word(b"cut short\n");
-        return behind_volume;
+        word(out, b"cut short\n")?;
+        return Ok(behind_volume);
     }
     let file = first(behind(input, at + 16), volume);
     if wanted == 2 {
-        write(file, index);
-        return behind_volume;
+        write(out, file, index)?;
+        return Ok(behind_volume);
     }
     let behind_index = behind_volume + index;
     if input.len() < behind_index {
-        word(b"cut short\n");
-        return behind_index;
+        word(out, b"cut short\n")?;
+        return Ok(behind_index);
     }
     lists_in_rooms(
+        out,
         file,
         first(behind(input, behind_volume), index),
         input,
@@ -229,24 +239,25 @@ fn group(input: &[u8], at: usize) -> usize
     )
 }
 
-fn each(input: &[u8]) {
+fn each(out: &impl Print, input: &[u8]) -> io::Result<()> {
     let mut at = 0;
     while at < input.len() {
-        at = group(input, at);
+        at = group(out, input, at)?;
     }
+    Ok(())
 }
 
-fn run(buf: &mut [u8]) {
-    let n = io::read_full(STDIN_FILENO, buf);
+fn run(out: &impl Print, input: &mut impl Read, buf: &mut [u8]) -> io::Result<()> {
+    let n = read_full(input, buf)?;
     if n < buf.len() {
-        each(first(buf, n));
+        each(out, first(buf, n))
     } else {
-        word(b"too long\n");
+        word(out, b"too long\n")
     }
 }
 
-fn main() {
+fn main(rt: HostRuntime) -> io::Result<()> {
     // one byte more than the most that is taken
     let mut buf = [0u8; 3932716];
-    run(&mut buf);
+    run(&rt, &mut rt.stdin(), &mut buf)
 }

@@ -3,22 +3,24 @@
 use crate::rooms::{fill_signed, sum_signed};
 use engine::ListAnswer;
 use printing::{bare_refused, fill, newline, number, sum, word};
+use std::io;
 
-fn print_told(answer: ListAnswer) {
+fn print_told(out: &impl Print, answer: ListAnswer) -> io::Result<()> {
     match answer {
         ListAnswer::Filled(n) => {
-            word(b"filled");
-            number(n as u64);
+            word(out, b"filled")?;
+            number(out, n as u64)
         }
         ListAnswer::Refused(n) => {
-            bare_refused(n);
-            word(b" 0");
+            bare_refused(out, n)?;
+            word(out, b" 0")
         }
     }
 }
 
 // In rooms that are filled with AA before.
 pub(crate) fn print_answer(
+    out: &impl Print,
     file: &[u8],
     index: &[u8],
     radials: &[usize],
@@ -26,11 +28,14 @@ pub(crate) fn print_answer(
     gates: &[usize],
     kinds: &mut [u8],
     hundredths: &mut [i32],
-) {
+) -> io::Result<()> {
     fill(kinds, 0xAA);
     fill_signed(hundredths, le::i32_of(0xAAAA_AAAA));
-    print_told(engine::answer(file, index, radials, types, gates, kinds, hundredths));
-    number(sum(kinds) as u64);
-    number(sum_signed(hundredths) as u64);
-    newline();
+    print_told(
+        out,
+        engine::answer(file, index, radials, types, gates, kinds, hundredths),
+    )?;
+    number(out, sum(kinds) as u64)?;
+    number(out, sum_signed(hundredths) as u64)?;
+    newline(out)
 }

@@ -6,31 +6,31 @@
 // is not looked at.
 #![tactic(auto)]
 
-ghost use Rattle.std.specs.Prelude.{◌≡◌, ◌≤◌, ◌<◌, length};
+ghost use Rattle.std.specs.Prelude.{◌≡◌, ◌≤◌, ◌<◌, length, IfOk};
 
 use decoded::CheckAnswer;
-use libc::STDIN_FILENO;
-use printing::{bare_refused, behind, first, newline, number, word};
+use printing::{bare_refused, behind, first, newline, number, read_full, word};
+use std::io;
 
-fn say_refusal(n: u32) {
+fn say_refusal(out: &impl Print, n: u32) -> io::Result<()> {
     match n {
-        30 => word(b"nothing yet: no such whole radial\n"),
-        _ => word(b"no such moment in the radial\n"),
+        30 => word(out, b"nothing yet: no such whole radial\n"),
+        _ => word(out, b"no such moment in the radial\n"),
     }
 }
 
-fn print_answer(answer: CheckAnswer) {
+fn print_answer(out: &impl Print, answer: CheckAnswer) -> io::Result<()> {
     match answer {
-        CheckAnswer::Same => word(b"same\n"),
+        CheckAnswer::Same => word(out, b"same\n"),
         CheckAnswer::Differs(gate) => {
-            word(b"differs");
-            number(gate as u64);
-            newline();
+            word(out, b"differs")?;
+            number(out, gate as u64)?;
+            newline(out)
         }
         CheckAnswer::Refused(n) => {
-            bare_refused(n);
-            word(b" 0\n");
-            say_refusal(n);
+            bare_refused(out, n)?;
+            word(out, b" 0\n")?;
+            say_refusal(out, n)
         }
     }
 }
@@ -52,51 +52,68 @@ fn unpack(bytes: &[u8], room: &mut [i32]) -> usize
 }
 
 // The row at a place, and the place behind it.
-fn row(volume: &[u8], input: &[u8], at: usize, room: &mut [i32]) -> usize
+fn row(
+    out: &impl Print,
+    volume: &[u8],
+    input: &[u8],
+    at: usize,
+    room: &mut [i32],
+) -> io::Result<usize>
     requires { at < length input.now }
-    ensures { at ≤ result }
+    ensures { IfOk result (λ next. at ≤ next) }
 {
     let kinds = le::u32_at(input, at + 8) as usize;
     let bytes = 4 * (le::u32_at(input, at + 12) as usize);
     let n = unpack(first(behind(input, at + 16 + kinds), bytes), room);
     if bytes <= 4 * room.len() {
-        print_answer(decoded::check(
-            volume,
-            le::u32_at(input, at) as usize,
-            le::u32_at(input, at + 4),
-            first(behind(input, at + 16), kinds),
-            &room[..n],
-        ));
+        print_answer(
+            out,
+            decoded::check(
+                volume,
+                le::u32_at(input, at) as usize,
+                le::u32_at(input, at + 4),
+                first(behind(input, at + 16), kinds),
+                &room[..n],
+            ),
+        )?;
     } else {
-        word(b"too long\n");
+        word(out, b"too long\n")?;
     }
-    at + 16 + kinds + bytes
+    Ok(at + 16 + kinds + bytes)
 }
 
 // So many rows from a place on, and the place behind them.
-fn rows(volume: &[u8], input: &[u8], from: usize, count: u32, room: &mut [i32]) -> usize
-    ensures { from ≤ result }
+fn rows(
+    out: &impl Print,
+    volume: &[u8],
+    input: &[u8],
+    from: usize,
+    count: u32,
+    room: &mut [i32],
+) -> io::Result<usize>
+    ensures { IfOk result (λ next. from ≤ next) }
 {
     let mut at = from;
     let mut left = count;
     while 0 < left {
         if input.len() <= at {
-            return at;
+            return Ok(at);
         }
-        at = row(volume, input, at, room);
+        at = row(out, volume, input, at, room)?;
         left -= 1;
     }
-    at
+    Ok(at)
 }
 
-fn each(input: &[u8], room: &mut [i32]) {
+fn each(out: &impl Print, input: &[u8], room: &mut [i32]) -> io::Result<()> {
     let mut at = 0;
     while at < input.len() {
         let n = le::u32_at(input, at) as usize;
         let count = le::u32_at(input, at + 4);
         let volume = first(behind(input, at + 8), n);
-        at = rows(volume, input, at + 8 + n, count, room);
+        at = rows(out, volume, input, at + 8 + n, count, room)?;
     }
+    Ok(())
 }
 
 // One byte more than the longest volume and row with what is said before them.
@@ -106,13 +123,13 @@ fn room() -> [u8; 2424857]
     [0; 2424857]
 }
 
-fn main() {
+fn main(rt: HostRuntime) -> io::Result<()> {
     let mut buf = room();
-    let n = io::read_full(STDIN_FILENO, &mut buf);
+    let n = read_full(&mut rt.stdin(), &mut buf)?;
     let mut hundredths = [0i32; 65536];
     if n < 2424857 {
-        each(first(&buf, n), &mut hundredths);
+        each(&rt, first(&buf, n), &mut hundredths)
     } else {
-        word(b"too long\n");
+        word(&rt, b"too long\n")
     }
 }

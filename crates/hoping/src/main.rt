@@ -4,36 +4,37 @@
 // verdict, the bytes read and the whole radials.
 #![tactic(auto)]
 
-use libc::STDIN_FILENO;
-use printing::{bare, behind, first, print_reading, word};
+use printing::{bare, behind, first, print_reading, read_full, word};
+use std::io;
 
-fn tell(number: u64, file: &[u8]) {
-    bare(number);
-    word(b":");
-    print_reading(reading::read(file));
+fn tell(out: &impl Print, number: u64, file: &[u8]) -> io::Result<()> {
+    bare(out, number)?;
+    word(out, b":")?;
+    print_reading(out, reading::read(file))
 }
 
 // The file that keeps so many bytes of the one before and goes on with others.
-fn next(room: &mut [u8], number: u64, kept: u32, own: &[u8]) {
+fn next(out: &impl Print, room: &mut [u8], number: u64, kept: u32, own: &[u8]) -> io::Result<()> {
     le::put(room, kept as usize, own);
-    tell(number, first(room, kept as usize + own.len()));
+    tell(out, number, first(room, kept as usize + own.len()))
 }
 
-fn each(files: &[u8], room: &mut [u8]) {
+fn each(out: &impl Print, files: &[u8], room: &mut [u8]) -> io::Result<()> {
     let mut at = 0;
     let mut number = 0;
     while at < files.len() {
         let kept = le::u32_at(files, at);
         let n = le::u32_at(files, at + 4) as usize;
         number += 1;
-        next(room, number, kept, first(behind(files, at + 8), n));
+        next(out, room, number, kept, first(behind(files, at + 8), n))?;
         at = at + 8 + n;
     }
+    Ok(())
 }
 
-fn main() {
+fn main(rt: HostRuntime) -> io::Result<()> {
     let mut buf = [0u8; 262144];
-    let n = io::read_full(STDIN_FILENO, &mut buf);
+    let n = read_full(&mut rt.stdin(), &mut buf)?;
     let mut room = [0u8; 262144];
-    each(first(&buf, n), &mut room);
+    each(&rt, first(&buf, n), &mut room)
 }

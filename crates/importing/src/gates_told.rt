@@ -4,59 +4,70 @@ use ask::answers;
 use ask::answers::GateAnswer;
 use gates::{Gate, Told};
 use printing::{bare, bare_signed, newline, number, part, word};
+use std::io;
 
 // Of a value its exact fraction too, not reduced.
-fn print_told(told: Told) {
+fn print_told(out: &impl Print, told: Told) -> io::Result<()> {
     let gate = told.gate;
     let kind = gate.kind();
-    number(kind as u64);
+    number(out, kind as u64)?;
     if kind == Gate::VALUE {
-        word(b" ");
-        bare_signed(told.difference);
-        part(b"/", told.scale as u64);
+        word(out, b" ")?;
+        bare_signed(out, told.difference)?;
+        part(out, b"/", told.scale as u64)?;
     }
+    Ok(())
 }
 
-fn print_gate(answer: GateAnswer) {
+fn print_gate(out: &impl Print, answer: GateAnswer) -> io::Result<()> {
     match answer {
-        GateAnswer::Answered(told) => print_told(told),
-        GateAnswer::Refused(n) => number(n as u64),
+        GateAnswer::Answered(told) => print_told(out, told),
+        GateAnswer::Refused(n) => number(out, n as u64),
     }
 }
 
-fn print_gates(volume: &[u8], sequence: usize, t: u32, count: usize) {
+fn print_gates(
+    out: &impl Print,
+    volume: &[u8],
+    sequence: usize,
+    t: u32,
+    count: usize,
+) -> io::Result<()> {
     let mut i = 0;
     while i < count {
-        print_gate(answers::gate(volume, sequence, t, i));
+        print_gate(out, answers::gate(volume, sequence, t, i))?;
         i += 1;
     }
+    Ok(())
 }
 
-fn print_moment(volume: &[u8], sequence: usize, t: u32) {
-    bare(sequence as u64);
-    number(t as u64);
-    word(b":");
+fn print_moment(out: &impl Print, volume: &[u8], sequence: usize, t: u32) -> io::Result<()> {
+    bare(out, sequence as u64)?;
+    number(out, t as u64)?;
+    word(out, b":")?;
     let m = answers::moment(volume, sequence, t);
     if m.number == 0 {
         let bytes = answers::moment_data(volume, sequence, t);
         print_gates(
+            out,
             volume,
             sequence,
             t,
             gates::gates_in(bytes, m.header.bin_length),
-        );
+        )?;
     } else {
-        number(m.number as u64);
+        number(out, m.number as u64)?;
     }
-    newline();
+    newline(out)
 }
 
-pub(crate) fn print_radials(volume: &[u8], count: usize) {
+pub(crate) fn print_radials(out: &impl Print, volume: &[u8], count: usize) -> io::Result<()> {
     let mut n = 0;
     while n < count {
         n += 1;
-        print_moment(volume, n, 2);
-        print_moment(volume, n, 3);
-        print_moment(volume, n, 4);
+        print_moment(out, volume, n, 2)?;
+        print_moment(out, volume, n, 3)?;
+        print_moment(out, volume, n, 4)?;
     }
+    Ok(())
 }

@@ -9,18 +9,25 @@
 mod gates_told;
 mod telling;
 
-ghost use Rattle.std.specs.Prelude.{◌<◌, length};
+ghost use Rattle.std.specs.Prelude.{◌<◌, length, IfOk};
 
 use crate::telling::{print_refused, print_taken};
 use generic::Generic;
-use libc::STDIN_FILENO;
-use printing::{behind, fill, first, word};
+use printing::{behind, fill, first, read_full, word};
 use site::Site;
+use std::io;
+use std::io::Read;
 use task::Task;
 use writer::order::Answer;
 
 // Our records are all there.
-fn bring(records: &[u8], old: &[u8], room: &mut [u8], output: u32) {
+fn bring(
+    out: &impl Print,
+    records: &[u8],
+    old: &[u8],
+    room: &mut [u8],
+    output: u32,
+) -> io::Result<()> {
     fill(room, 0xAA);
     let put = shelf::import(
         Generic::read(records, 0),
@@ -32,68 +39,77 @@ fn bring(records: &[u8], old: &[u8], room: &mut [u8], output: u32) {
     );
     let answer = put.answer;
     match answer {
-        Answer::Taken => print_taken(room, put.walk.at, output),
-        Answer::Refused(number, place) => print_refused(room, number, place, output),
+        Answer::Taken => print_taken(out, room, put.walk.at, output),
+        Answer::Refused(number, place) => print_refused(out, room, number, place, output),
     }
 }
 
 // The records and the old file are there as they were given; the room may be longer than was asked for.
-fn answer(records: &[u8], old: &[u8], room: &mut [u8], asked: usize, output: u32) {
+fn answer(
+    out: &impl Print,
+    records: &[u8],
+    old: &[u8],
+    room: &mut [u8],
+    asked: usize,
+    output: u32,
+) -> io::Result<()> {
     if records.len() < Generic::SIZE + Site::SIZE + Task::SIZE {
-        word(b"no records\n");
+        word(out, b"no records\n")
     } else if room.len() < asked {
-        word(b"too long\n");
+        word(out, b"too long\n")
     } else {
-        bring(records, old, &mut room[..asked], output);
+        bring(out, records, old, &mut room[..asked], output)
     }
 }
 
 // The case at a place, and the place behind it.
-fn case(input: &[u8], at: usize, room: &mut [u8]) -> usize
+fn case(out: &impl Print, input: &[u8], at: usize, room: &mut [u8]) -> io::Result<usize>
     requires { at < length input.now }
-    ensures { at < result }
+    ensures { IfOk result (λ next. at < next) }
 {
     let records = le::u32_at(input, at) as usize;
     let old = le::u32_at(input, at + 4) as usize;
     let next = at + 16 + records + old;
     if input.len() < next {
-        word(b"cut short\n");
-        return next;
+        word(out, b"cut short\n")?;
+        return Ok(next);
     }
     answer(
+        out,
         first(behind(input, at + 16), records),
         first(behind(input, at + 16 + records), old),
         room,
         le::u32_at(input, at + 8) as usize,
         le::u32_at(input, at + 12),
-    );
-    next
+    )?;
+    Ok(next)
 }
 
-fn each(input: &[u8], room: &mut [u8]) {
+fn each(out: &impl Print, input: &[u8], room: &mut [u8]) -> io::Result<()> {
     let mut at = 0;
     while at < input.len() {
-        at = case(input, at, room);
+        at = case(out, input, at, room)?;
     }
+    Ok(())
 }
 
 // Each array is made where it is lent, and not by a function that hands it over: that would need the stack for it twice.
-fn each_in_room(input: &[u8]) {
+fn each_in_room(out: &impl Print, input: &[u8]) -> io::Result<()> {
     let mut room = [0u8; 4169072];
-    each(input, &mut room);
+    each(out, input, &mut room)
 }
 
-fn run(buf: &mut [u8]) {
-    let n = io::read_full(STDIN_FILENO, buf);
+fn run(out: &impl Print, input: &mut impl Read, buf: &mut [u8]) -> io::Result<()> {
+    let n = read_full(input, buf)?;
     if n < buf.len() {
-        each_in_room(first(buf, n));
+        each_in_room(out, first(buf, n))
     } else {
-        word(b"too long\n");
+        word(out, b"too long\n")
     }
 }
 
-fn main() {
+fn main(rt: HostRuntime) -> io::Result<()> {
     // one byte more than the most that is taken
     let mut buf = [0u8; 2163121];
-    run(&mut buf);
+    run(&rt, &mut rt.stdin(), &mut buf)
 }

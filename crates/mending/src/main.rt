@@ -8,98 +8,115 @@
 mod telling;
 mod words;
 
-ghost use Rattle.std.specs.Prelude.{◌<◌, length};
+ghost use Rattle.std.specs.Prelude.{◌<◌, length, IfOk};
 
 use crate::telling::{print_refused, print_written};
 use crate::words::{say_refused, say_written};
-use libc::STDIN_FILENO;
 use mend::Mended;
-use printing::{behind, fill, first, word};
+use printing::{behind, fill, first, read_full, word};
+use std::io;
+use std::io::Read;
 
 // Output 1 is for the command line.
-fn close(file: &[u8], room: &mut [u8], output: u32) {
+fn close(out: &impl Print, file: &[u8], room: &mut [u8], output: u32) -> io::Result<()> {
     fill(room, 0xAA);
     let mended = mend::mend(file, room);
     match mended {
         Mended::Written(size, report) => {
             if output == 1 {
-                say_written(first(room, size), report);
+                say_written(out, first(room, size), report)
             } else {
-                print_written(room, size, report);
+                print_written(out, room, size, report)
             }
         }
         Mended::Refused(number) => {
             if output == 1 {
-                say_refused(number);
+                say_refused(out, number)
             } else {
-                print_refused(room, number);
+                print_refused(out, room, number)
             }
         }
     }
 }
 
-fn each_start(file: &[u8], shortest: usize, room: &mut [u8], output: u32) {
+fn each_start(
+    out: &impl Print,
+    file: &[u8],
+    shortest: usize,
+    room: &mut [u8],
+    output: u32,
+) -> io::Result<()> {
     let mut n = shortest;
     while n <= file.len() {
-        close(first(file, n), room, output);
+        close(out, first(file, n), room, output)?;
         n += 1;
     }
+    Ok(())
 }
 
 // The room may be longer than was asked for.
-fn answer(file: &[u8], shortest: usize, room: &mut [u8], asked: usize, output: u32) {
+fn answer(
+    out: &impl Print,
+    file: &[u8],
+    shortest: usize,
+    room: &mut [u8],
+    asked: usize,
+    output: u32,
+) -> io::Result<()> {
     if room.len() < asked {
-        word(b"too long\n");
+        word(out, b"too long\n")
     } else {
-        each_start(file, shortest, &mut room[..asked], output);
+        each_start(out, file, shortest, &mut room[..asked], output)
     }
 }
 
 // The case at a place, and the place behind it.
-fn case(input: &[u8], at: usize, room: &mut [u8]) -> usize
+fn case(out: &impl Print, input: &[u8], at: usize, room: &mut [u8]) -> io::Result<usize>
     requires { at < length input.now }
-    ensures { at < result }
+    ensures { IfOk result (λ next. at < next) }
 {
     let size = le::u32_at(input, at) as usize;
     let next = at + 16 + size;
     if input.len() < next {
-        word(b"cut short\n");
-        return next;
+        word(out, b"cut short\n")?;
+        return Ok(next);
     }
     answer(
+        out,
         first(behind(input, at + 16), size),
         le::u32_at(input, at + 4) as usize,
         room,
         le::u32_at(input, at + 8) as usize,
         le::u32_at(input, at + 12),
-    );
-    next
+    )?;
+    Ok(next)
 }
 
-fn each(input: &[u8], room: &mut [u8]) {
+fn each(out: &impl Print, input: &[u8], room: &mut [u8]) -> io::Result<()> {
     let mut at = 0;
     while at < input.len() {
-        at = case(input, at, room);
+        at = case(out, input, at, room)?;
     }
+    Ok(())
 }
 
 // Each array is made where it is lent, and not by a function that hands it over: that would need the stack for it twice.
-fn each_in_room(input: &[u8]) {
+fn each_in_room(out: &impl Print, input: &[u8]) -> io::Result<()> {
     let mut room = [0u8; 2097152];
-    each(input, &mut room);
+    each(out, input, &mut room)
 }
 
-fn run(buf: &mut [u8]) {
-    let n = io::read_full(STDIN_FILENO, buf);
+fn run(out: &impl Print, input: &mut impl Read, buf: &mut [u8]) -> io::Result<()> {
+    let n = read_full(input, buf)?;
     if n < buf.len() {
-        each_in_room(first(buf, n));
+        each_in_room(out, first(buf, n))
     } else {
-        word(b"too long\n");
+        word(out, b"too long\n")
     }
 }
 
-fn main() {
+fn main(rt: HostRuntime) -> io::Result<()> {
     // one byte more than the most that is taken
     let mut buf = [0u8; 2097169];
-    run(&mut buf);
+    run(&rt, &mut rt.stdin(), &mut buf)
 }

@@ -2,45 +2,56 @@
 // the room, so that no byte is stored unseen.
 use mend::report::{Field, Report};
 use printing::{bare_refused, first, number, print_read, print_sum, word};
+use std::io;
 
-fn print_pair(name: &[u8], a: usize, b: usize) {
-    word(name);
-    number(a as u64);
-    number(b as u64);
+fn print_pair(out: &impl Print, name: &[u8], a: usize, b: usize) -> io::Result<()> {
+    word(out, name)?;
+    number(out, a as u64)?;
+    number(out, b as u64)
 }
 
 // Nothing of a field that is not named.
-fn print_field(name: &[u8], field: Field) {
+fn print_field(out: &impl Print, name: &[u8], field: Field) -> io::Result<()> {
     match field {
         Field::Changed(c) => {
-            print_pair(name, c.place, c.written);
-            number(c.old as u64);
-            number(c.new as u64);
+            print_pair(out, name, c.place, c.written)?;
+            number(out, c.old as u64)?;
+            number(out, c.new as u64)
         }
-        Field::Same => {}
+        Field::Same => { Ok(()) }
     }
 }
 
-fn print_report(r: Report) {
+fn print_report(out: &impl Print, r: Report) -> io::Result<()> {
     let cut_number = r.cut_number;
     let state = r.state;
-    print_field(b" cut number", cut_number);
-    print_field(b" state", state);
-    print_pair(b" cuts", r.first_dropped as usize, r.dropped_cuts as usize);
-    print_pair(b" stretch", r.from, r.to);
+    print_field(out, b" cut number", cut_number)?;
+    print_field(out, b" state", state)?;
+    print_pair(
+        out,
+        b" cuts",
+        r.first_dropped as usize,
+        r.dropped_cuts as usize,
+    )?;
+    print_pair(out, b" stretch", r.from, r.to)
 }
 
 // The volume is the first bytes of the room.
-pub(crate) fn print_written(room: &[u8], size: usize, report: Report) {
-    word(b"written");
-    number(size as u64);
-    print_report(report);
-    print_read(reading::read(first(room, size)));
-    print_sum(room);
+pub(crate) fn print_written(
+    out: &impl Print,
+    room: &[u8],
+    size: usize,
+    report: Report,
+) -> io::Result<()> {
+    word(out, b"written")?;
+    number(out, size as u64)?;
+    print_report(out, report)?;
+    print_read(out, reading::read(first(room, size)))?;
+    print_sum(out, room)
 }
 
-pub(crate) fn print_refused(room: &[u8], n: u32) {
-    bare_refused(n);
-    number(0);
-    print_sum(room);
+pub(crate) fn print_refused(out: &impl Print, room: &[u8], n: u32) -> io::Result<()> {
+    bare_refused(out, n)?;
+    number(out, 0)?;
+    print_sum(out, room)
 }

@@ -2,42 +2,43 @@
 // are; or a refusal in words.
 use mend::report::{Field, Report};
 use printing::{bare_refused, newline, part, print_volume, word};
+use std::io;
 
-fn say_contents(before: &[u8], contents: u32, place: usize) {
-    part(before, contents as u64);
-    part(b" at byte ", place as u64);
+fn say_contents(out: &impl Print, before: &[u8], contents: u32, place: usize) -> io::Result<()> {
+    part(out, before, contents as u64)?;
+    part(out, b" at byte ", place as u64)
 }
 
 // Nothing of a field that is not named.
-fn say_field(name: &[u8], field: Field) {
+fn say_field(out: &impl Print, name: &[u8], field: Field) -> io::Result<()> {
     match field {
         Field::Changed(c) => {
-            word(name);
-            say_contents(b": was ", c.old, c.place);
-            say_contents(b" of the file, is ", c.new, c.written);
-            word(b" of the volume\n");
+            word(out, name)?;
+            say_contents(out, b": was ", c.old, c.place)?;
+            say_contents(out, b" of the file, is ", c.new, c.written)?;
+            word(out, b" of the volume\n")
         }
-        Field::Same => {}
+        Field::Same => { Ok(()) }
     }
 }
 
-fn say_cuts(first: u32, count: u32) {
+fn say_cuts(out: &impl Print, first: u32, count: u32) -> io::Result<()> {
     if count == 0 {
-        word(b"dropped cuts: none\n");
+        word(out, b"dropped cuts: none\n")
     } else {
-        part(b"dropped cuts: ", count as u64);
-        part(b", from cut ", first as u64);
-        word(b" on\n");
+        part(out, b"dropped cuts: ", count as u64)?;
+        part(out, b", from cut ", first as u64)?;
+        word(out, b" on\n")
     }
 }
 
-fn say_stretch(from: usize, to: usize) {
+fn say_stretch(out: &impl Print, from: usize, to: usize) -> io::Result<()> {
     if from == to {
-        word(b"dropped stretch: none\n");
+        word(out, b"dropped stretch: none\n")
     } else {
-        part(b"dropped stretch: from byte ", from as u64);
-        part(b" up to the end of the file at byte ", to as u64);
-        newline();
+        part(out, b"dropped stretch: from byte ", from as u64)?;
+        part(out, b" up to the end of the file at byte ", to as u64)?;
+        newline(out)
     }
 }
 
@@ -50,33 +51,33 @@ fn unchanged(r: Report) -> bool {
     }
 }
 
-fn say_report(r: Report) {
+fn say_report(out: &impl Print, r: Report) -> io::Result<()> {
     if unchanged(r) {
-        word(b"nothing changed: the file is complete\n");
+        word(out, b"nothing changed: the file is complete\n")
     } else {
         let cut_number = r.cut_number;
         let state = r.state;
-        say_field(b"cut number", cut_number);
-        say_field(b"state of the last radial kept", state);
-        say_cuts(r.first_dropped, r.dropped_cuts);
-        say_stretch(r.from, r.to);
+        say_field(out, b"cut number", cut_number)?;
+        say_field(out, b"state of the last radial kept", state)?;
+        say_cuts(out, r.first_dropped, r.dropped_cuts)?;
+        say_stretch(out, r.from, r.to)
     }
 }
 
-pub(crate) fn say_written(volume: &[u8], report: Report) {
-    say_report(report);
-    print_volume(volume);
+pub(crate) fn say_written(out: &impl Print, volume: &[u8], report: Report) -> io::Result<()> {
+    say_report(out, report)?;
+    print_volume(out, volume)
 }
 
-fn say_refusal(n: u32) {
+fn say_refusal(out: &impl Print, n: u32) -> io::Result<()> {
     match n {
-        54 => word(b"no cut has two whole radials\n"),
-        _ => word(b"the room is too short for the volume\n"),
+        54 => word(out, b"no cut has two whole radials\n"),
+        _ => word(out, b"the room is too short for the volume\n"),
     }
 }
 
-pub(crate) fn say_refused(n: u32) {
-    bare_refused(n);
-    word(b" 0\n");
-    say_refusal(n);
+pub(crate) fn say_refused(out: &impl Print, n: u32) -> io::Result<()> {
+    bare_refused(out, n)?;
+    word(out, b" 0\n")?;
+    say_refusal(out, n)
 }

@@ -3,9 +3,9 @@
 // longitude, an azimuth and an elevation. Then, for each angle, runs of bits of which the same is told, by the first and the last:
 // around each place where an answer may turn, and through all of the 2^32 patterns.
 use crate::SMALL;
-use libc::STDOUT_FILENO;
 use printing::{first, newline, print_verdict, word};
 use reading::Verdict;
+use std::io;
 
 const LATITUDE: usize = 72;
 
@@ -23,8 +23,8 @@ fn told(buf: &mut [u8; 65536], place: usize, bits: u32) -> Verdict {
     v
 }
 
-fn print_bits(bits: u32) {
-    io::print_hex(STDOUT_FILENO, bits as u64, 8);
+fn print_bits(out: &impl Print, bits: u32) -> io::Result<()> {
+    print!(out; "{bits:08x}")
 }
 
 fn pattern(i: usize) -> u32 {
@@ -67,25 +67,26 @@ fn pattern(i: usize) -> u32 {
     }
 }
 
-fn line(buf: &mut [u8; 65536], bits: u32) {
-    print_bits(bits);
-    word(b":");
-    print_verdict(told(buf, LATITUDE, bits));
-    word(b",");
-    print_verdict(told(buf, LONGITUDE, bits));
-    word(b",");
-    print_verdict(told(buf, AZIMUTH, bits));
-    word(b",");
-    print_verdict(told(buf, ELEVATION, bits));
-    newline();
+fn line(out: &impl Print, buf: &mut [u8; 65536], bits: u32) -> io::Result<()> {
+    print_bits(out, bits)?;
+    word(out, b":")?;
+    print_verdict(out, told(buf, LATITUDE, bits))?;
+    word(out, b",")?;
+    print_verdict(out, told(buf, LONGITUDE, bits))?;
+    word(out, b",")?;
+    print_verdict(out, told(buf, AZIMUTH, bits))?;
+    word(out, b",")?;
+    print_verdict(out, told(buf, ELEVATION, bits))?;
+    newline(out)
 }
 
-fn each_line(buf: &mut [u8; 65536]) {
+fn each_line(out: &impl Print, buf: &mut [u8; 65536]) -> io::Result<()> {
     let mut i = 0;
     while i < 32 {
-        line(buf, pattern(i));
+        line(out, buf, pattern(i))?;
         i += 1;
     }
+    Ok(())
 }
 
 fn same(a: Verdict, b: Verdict) -> bool {
@@ -105,17 +106,24 @@ fn same(a: Verdict, b: Verdict) -> bool {
     }
 }
 
-fn print_run(from: u32, to: u32, v: Verdict) {
-    print_bits(from);
-    word(b" to ");
-    print_bits(to);
-    word(b":");
-    print_verdict(v);
-    newline();
+fn print_run(out: &impl Print, from: u32, to: u32, v: Verdict) -> io::Result<()> {
+    print_bits(out, from)?;
+    word(out, b" to ")?;
+    print_bits(out, to)?;
+    word(out, b":")?;
+    print_verdict(out, v)?;
+    newline(out)
 }
 
 // From a pattern on, each by a stride from the last, as many as there are turns and one more.
-fn sweep(buf: &mut [u8; 65536], place: usize, start: u32, stride: u32, turns: usize) {
+fn sweep(
+    out: &impl Print,
+    buf: &mut [u8; 65536],
+    place: usize,
+    start: u32,
+    stride: u32,
+    turns: usize,
+) -> io::Result<()> {
     let mut from = start;
     let mut to = start;
     let mut v = told(buf, place, start);
@@ -124,51 +132,58 @@ fn sweep(buf: &mut [u8; 65536], place: usize, start: u32, stride: u32, turns: us
         let next = std::num::wrapping_add_u32(to, stride);
         let w = told(buf, place, next);
         if !same(v, w) {
-            print_run(from, to, v);
+            print_run(out, from, to, v)?;
             from = next;
             v = w;
         }
         to = next;
         i += 1;
     }
-    print_run(from, to, v);
+    print_run(out, from, to, v)
 }
 
 // The 256 patterns on either side of one.
-fn around(buf: &mut [u8; 65536], place: usize, bits: u32) {
-    sweep(buf, place, std::num::wrapping_sub_u32(bits, 256), 1, 512);
+fn around(out: &impl Print, buf: &mut [u8; 65536], place: usize, bits: u32) -> io::Result<()> {
+    sweep(
+        out,
+        buf,
+        place,
+        std::num::wrapping_sub_u32(bits, 256),
+        1,
+        512,
+    )
 }
 
 // A prime stride, so that every bit of the pattern takes part.
-fn through(buf: &mut [u8; 65536], place: usize) {
-    sweep(buf, place, 0, 1_048_583, 4095);
+fn through(out: &impl Print, buf: &mut [u8; 65536], place: usize) -> io::Result<()> {
+    sweep(out, buf, place, 0, 1_048_583, 4095)
 }
 
-fn sweeps(buf: &mut [u8; 65536], place: usize) {
-    around(buf, place, 0x0000_0000);
-    around(buf, place, 0x42B4_0000);
-    around(buf, place, 0x4334_0000);
-    around(buf, place, 0x43B4_0000);
-    around(buf, place, 0x7F80_0000);
-    around(buf, place, 0x7FC0_0000);
-    around(buf, place, 0x8000_0000);
-    around(buf, place, 0xC000_0000);
-    around(buf, place, 0xC2B4_0000);
-    around(buf, place, 0xC334_0000);
-    around(buf, place, 0xFF80_0000);
-    around(buf, place, 0xFFC0_0000);
-    through(buf, place);
+fn sweeps(out: &impl Print, buf: &mut [u8; 65536], place: usize) -> io::Result<()> {
+    around(out, buf, place, 0x0000_0000)?;
+    around(out, buf, place, 0x42B4_0000)?;
+    around(out, buf, place, 0x4334_0000)?;
+    around(out, buf, place, 0x43B4_0000)?;
+    around(out, buf, place, 0x7F80_0000)?;
+    around(out, buf, place, 0x7FC0_0000)?;
+    around(out, buf, place, 0x8000_0000)?;
+    around(out, buf, place, 0xC000_0000)?;
+    around(out, buf, place, 0xC2B4_0000)?;
+    around(out, buf, place, 0xC334_0000)?;
+    around(out, buf, place, 0xFF80_0000)?;
+    around(out, buf, place, 0xFFC0_0000)?;
+    through(out, buf, place)
 }
 
-pub fn each(buf: &mut [u8; 65536]) {
-    word(b"bits: as latitude, longitude, azimuth, elevation\n");
-    each_line(buf);
-    word(b"latitude\n");
-    sweeps(buf, LATITUDE);
-    word(b"longitude\n");
-    sweeps(buf, LONGITUDE);
-    word(b"azimuth\n");
-    sweeps(buf, AZIMUTH);
-    word(b"elevation\n");
-    sweeps(buf, ELEVATION);
+pub fn each(out: &impl Print, buf: &mut [u8; 65536]) -> io::Result<()> {
+    word(out, b"bits: as latitude, longitude, azimuth, elevation\n")?;
+    each_line(out, buf)?;
+    word(out, b"latitude\n")?;
+    sweeps(out, buf, LATITUDE)?;
+    word(out, b"longitude\n")?;
+    sweeps(out, buf, LONGITUDE)?;
+    word(out, b"azimuth\n")?;
+    sweeps(out, buf, AZIMUTH)?;
+    word(out, b"elevation\n")?;
+    sweeps(out, buf, ELEVATION)
 }

@@ -7,9 +7,9 @@ mod angles;
 
 ghost use Rattle.std.specs.Prelude.{◌≤◌, length};
 
-use libc::STDIN_FILENO;
-use printing::{behind, first, number, print_reading, print_verdict, word};
+use printing::{behind, first, number, print_reading, print_verdict, read_full, word};
 use reading::{Reading, Verdict};
+use std::io;
 
 // The blocks before the radials of the small volume. Here and below, a byte that no rule asks for is 0.
 fn front_byte(at: usize) -> u8 {
@@ -85,65 +85,65 @@ fn read_first(file: &[u8], n: usize) -> Reading {
     reading::read(first(file, n))
 }
 
-fn tell(label: &[u8], file: &[u8], n: usize) {
-    word(label);
-    print_reading(read_first(file, n));
+fn tell(out: &impl Print, label: &[u8], file: &[u8], n: usize) -> io::Result<()> {
+    word(out, label)?;
+    print_reading(out, read_first(file, n))
 }
 
-fn wrong_magic() {
+fn wrong_magic(out: &impl Print) -> io::Result<()> {
     let mut v = small();
     v[0] = 0;
-    tell(b"empty:", &v, 0);
-    tell(b"wrong magic, 31 bytes:", &v, 31);
-    tell(b"wrong magic, 32 bytes:", &v, 32);
+    tell(out, b"empty:", &v, 0)?;
+    tell(out, b"wrong magic, 31 bytes:", &v, 31)?;
+    tell(out, b"wrong magic, 32 bytes:", &v, 32)
 }
 
 // Up to 256 (document 02, #106).
-fn cut_numbers() {
+fn cut_numbers(out: &impl Print) -> io::Result<()> {
     let mut v = small();
     v[336] = 50;
-    tell(b"cut number 50:", &v, SMALL);
+    tell(out, b"cut number 50:", &v, SMALL)?;
     v[336] = 51;
-    tell(b"cut number 51:", &v, SMALL);
+    tell(out, b"cut number 51:", &v, SMALL)?;
     v[336] = 0;
     v[337] = 1;
-    tell(b"cut number 256:", &v, SMALL);
+    tell(out, b"cut number 256:", &v, SMALL)?;
     v[336] = 1;
-    tell(b"cut number 257:", &v, SMALL);
+    tell(out, b"cut number 257:", &v, SMALL)
 }
 
 // As many as of any task for scan type 5, and one for scan type 2, of which the first radial's state then is wrong.
-fn cut_numbers_of_rhi() {
+fn cut_numbers_of_rhi(out: &impl Print) -> io::Result<()> {
     let mut v = small();
     v[324] = 5;
     v[336] = 0;
     v[337] = 1;
-    tell(b"cut number 256, scan type 5:", &v, SMALL);
+    tell(out, b"cut number 256, scan type 5:", &v, SMALL)?;
     v[336] = 1;
-    tell(b"cut number 257, scan type 5:", &v, SMALL);
+    tell(out, b"cut number 257, scan type 5:", &v, SMALL)?;
     v[324] = 2;
     v[336] = 2;
     v[337] = 0;
-    tell(b"cut number 2, scan type 2:", &v, SMALL);
+    tell(out, b"cut number 2, scan type 2:", &v, SMALL)?;
     v[336] = 1;
-    tell(b"cut number 1, scan type 2:", &v, SMALL);
+    tell(out, b"cut number 1, scan type 2:", &v, SMALL)
 }
 
-fn microseconds() {
+fn microseconds(out: &impl Print) -> io::Result<()> {
     let mut v = small();
     v[704] = 0x3f;
     v[705] = 0x42;
     v[706] = 0x0f;
-    tell(b"microseconds 999999:", &v, SMALL);
+    tell(out, b"microseconds 999999:", &v, SMALL)?;
     v[704] = 0x40;
-    tell(b"microseconds 1000000:", &v, SMALL);
+    tell(out, b"microseconds 1000000:", &v, SMALL)
 }
 
-fn lengths() {
+fn lengths(out: &impl Print) -> io::Result<()> {
     let v = small();
-    tell(b"small volume:", &v, SMALL);
-    tell(b"its first 871:", &v, 871);
-    tell(b"one byte added:", &v, 873);
+    tell(out, b"small volume:", &v, SMALL)?;
+    tell(out, b"its first 871:", &v, 871)?;
+    tell(out, b"one byte added:", &v, 873)
 }
 
 // Whether one byte more reads no more, and wants one byte less.
@@ -186,61 +186,69 @@ fn run_end(file: &[u8], first: usize) -> usize
     last
 }
 
-fn print_run(file: &[u8], first: usize, last: usize) {
-    word(b"prefixes");
-    number(first as u64);
-    word(b" to");
-    number(last as u64);
-    word(b":");
+fn print_run(out: &impl Print, file: &[u8], first: usize, last: usize) -> io::Result<()> {
+    word(out, b"prefixes")?;
+    number(out, first as u64)?;
+    word(out, b" to")?;
+    number(out, last as u64)?;
+    word(out, b":")?;
     let r = read_first(file, first);
     let v = r.verdict;
-    print_verdict(v);
-    word(b" to");
-    print_reading(read_first(file, last));
+    print_verdict(out, v)?;
+    word(out, b" to")?;
+    print_reading(out, read_first(file, last))
 }
 
 // Every prefix of a volume, by runs of lengths at which the same is read and each byte more wants one less.
-fn prefixes(file: &[u8]) {
+fn prefixes(out: &impl Print, file: &[u8]) -> io::Result<()> {
     let mut first = 0;
     while first <= file.len() {
         let last = run_end(file, first);
-        print_run(file, first, last);
+        print_run(out, file, first, last)?;
         first = last + 1;
     }
+    Ok(())
 }
 
 // What is told of the first n bytes with another byte at a place, which holds the old one again afterwards.
-fn with_byte(buf: &mut [u8; 65536], n: usize, place: usize, value: u8) {
+fn with_byte(
+    out: &impl Print,
+    buf: &mut [u8; 65536],
+    n: usize,
+    place: usize,
+    value: u8,
+) -> io::Result<()> {
     if place < 65536 {
         let old = buf[place];
         buf[place] = value;
-        word(b"at");
-        number(place as u64);
-        number(value as u64);
-        tell(b":", buf, n);
+        word(out, b"at")?;
+        number(out, place as u64)?;
+        number(out, value as u64)?;
+        tell(out, b":", buf, n)?;
         buf[place] = old;
     }
+    Ok(())
 }
 
 // Every state, and every scan type, is among the numbers 0 to 6; 7 is neither.
-fn with_each(buf: &mut [u8; 65536], n: usize, place: usize) {
-    with_byte(buf, n, place, 0);
-    with_byte(buf, n, place, 1);
-    with_byte(buf, n, place, 2);
-    with_byte(buf, n, place, 3);
-    with_byte(buf, n, place, 4);
-    with_byte(buf, n, place, 5);
-    with_byte(buf, n, place, 6);
-    with_byte(buf, n, place, 7);
+fn with_each(out: &impl Print, buf: &mut [u8; 65536], n: usize, place: usize) -> io::Result<()> {
+    with_byte(out, buf, n, place, 0)?;
+    with_byte(out, buf, n, place, 1)?;
+    with_byte(out, buf, n, place, 2)?;
+    with_byte(out, buf, n, place, 3)?;
+    with_byte(out, buf, n, place, 4)?;
+    with_byte(out, buf, n, place, 5)?;
+    with_byte(out, buf, n, place, 6)?;
+    with_byte(out, buf, n, place, 7)
 }
 
 // Each state in the places of the small volume's two, and then its angles.
-fn small_changed() {
-    let mut buf = io::large_buffer();
+fn small_changed(out: &impl Print) -> io::Result<()> {
+    let mut buf = [0u8; 65536];
     fill(&mut buf);
-    with_each(&mut buf, SMALL, 672);
-    with_each(&mut buf, SMALL, 772);
-    angles::each(&mut buf);
+    with_each(out, &mut buf, SMALL, 672)?;
+    with_each(out, &mut buf, SMALL, 772)?;
+    angles::each(out, &mut buf)
 }
 
 // The bytes of the six layers, behind which the cloud radar's file begins.
@@ -248,56 +256,56 @@ const LAYERS: usize = 3360;
 
 // An RHI of six layers (document 02, #103): each scan type; each state in the places of its radials', of which five cuts have
 // two and the last has three; every prefix.
-fn layers(buf: &mut [u8; 65536]) {
-    tell(b"six layers:", buf, LAYERS);
-    with_each(buf, LAYERS, 324);
-    with_each(buf, LAYERS, 1952);
-    with_each(buf, LAYERS, 2052);
-    with_each(buf, LAYERS, 2152);
-    with_each(buf, LAYERS, 2252);
-    with_each(buf, LAYERS, 2388);
-    with_each(buf, LAYERS, 2488);
-    with_each(buf, LAYERS, 2588);
-    with_each(buf, LAYERS, 2688);
-    with_each(buf, LAYERS, 2824);
-    with_each(buf, LAYERS, 2924);
-    with_each(buf, LAYERS, 3024);
-    with_each(buf, LAYERS, 3124);
-    with_each(buf, LAYERS, 3260);
-    prefixes(first(buf, LAYERS));
+fn layers(out: &impl Print, buf: &mut [u8; 65536]) -> io::Result<()> {
+    tell(out, b"six layers:", buf, LAYERS)?;
+    with_each(out, buf, LAYERS, 324)?;
+    with_each(out, buf, LAYERS, 1952)?;
+    with_each(out, buf, LAYERS, 2052)?;
+    with_each(out, buf, LAYERS, 2152)?;
+    with_each(out, buf, LAYERS, 2252)?;
+    with_each(out, buf, LAYERS, 2388)?;
+    with_each(out, buf, LAYERS, 2488)?;
+    with_each(out, buf, LAYERS, 2588)?;
+    with_each(out, buf, LAYERS, 2688)?;
+    with_each(out, buf, LAYERS, 2824)?;
+    with_each(out, buf, LAYERS, 2924)?;
+    with_each(out, buf, LAYERS, 3024)?;
+    with_each(out, buf, LAYERS, 3124)?;
+    with_each(out, buf, LAYERS, 3260)?;
+    prefixes(out, first(buf, LAYERS))
 }
 
-fn tell_cloud(label: &[u8], buf: &[u8; 65536]) {
-    tell(label, behind(buf, LAYERS), 1216);
+fn tell_cloud(out: &impl Print, label: &[u8], buf: &[u8; 65536]) -> io::Result<()> {
+    tell(out, label, behind(buf, LAYERS), 1216)
 }
 
 // A cloud radar's file has a volume's magic and other blocks (source document 002). Its station's heights stand where a
 // volume has latitude and longitude, so a high station is refused there; a low one in the task, where a volume has the
 // polarization and this file a text.
-fn cloud_radar(buf: &mut [u8; 65536]) {
-    tell_cloud(b"cloud radar:", buf);
+fn cloud_radar(out: &impl Print, buf: &mut [u8; 65536]) -> io::Result<()> {
+    tell_cloud(out, b"cloud radar:", buf)?;
     // antenna and ground at 512 and 508 metres
     buf[LAYERS + 74] = 0;
     buf[LAYERS + 75] = 0x44;
     buf[LAYERS + 78] = 0xfe;
     buf[LAYERS + 79] = 0x43;
-    tell_cloud(b"cloud radar, high station:", buf);
+    tell_cloud(out, b"cloud radar, high station:", buf)?;
     // generic type 3
     buf[LAYERS + 8] = 3;
-    tell_cloud(b"cloud radar, spectra:", buf);
+    tell_cloud(out, b"cloud radar, spectra:", buf)
 }
 
-fn main() {
-    wrong_magic();
-    cut_numbers();
-    cut_numbers_of_rhi();
-    microseconds();
-    lengths();
+fn main(rt: HostRuntime) -> io::Result<()> {
+    wrong_magic(&rt)?;
+    cut_numbers(&rt)?;
+    cut_numbers_of_rhi(&rt)?;
+    microseconds(&rt)?;
+    lengths(&rt)?;
     let v = small();
-    prefixes(&v[0..SMALL]);
-    small_changed();
-    let mut buf = io::large_buffer();
-    io::read_full(STDIN_FILENO, &mut buf);
-    layers(&mut buf);
-    cloud_radar(&mut buf);
+    prefixes(&rt, &v[0..SMALL])?;
+    small_changed(&rt)?;
+    let mut buf = [0u8; 65536];
+    read_full(&mut rt.stdin(), &mut buf)?;
+    layers(&rt, &mut buf)?;
+    cloud_radar(&rt, &mut buf)
 }

@@ -8,108 +8,131 @@
 mod telling;
 mod words;
 
-ghost use Rattle.std.specs.Prelude.{◌<◌, length};
+ghost use Rattle.std.specs.Prelude.{◌<◌, length, IfOk};
 
 use crate::telling::{print_refused, print_written};
 use crate::words::say_refused;
-use libc::STDIN_FILENO;
 use pick::Picked;
-use printing::{behind, fill, first, print_volume, word};
+use printing::{behind, fill, first, print_volume, read_full, word};
+use std::io;
+use std::io::Read;
 
 // In a room that is filled with AA before; how many bytes are written.
-fn print_pick(file: &[u8], wanted: u64, room: &mut [u8]) -> usize {
+fn print_pick(out: &impl Print, file: &[u8], wanted: u64, room: &mut [u8]) -> io::Result<usize> {
     fill(room, 0xAA);
     let picked = pick::pick(file, wanted, room);
     match picked {
         Picked::Written(size) => {
-            print_written(room, size);
-            size
+            print_written(out, room, size)?;
+            Ok(size)
         }
         Picked::Refused(number, place) => {
-            print_refused(room, number, place);
-            0
+            print_refused(out, room, number, place)?;
+            Ok(0)
         }
     }
 }
 
-fn say_pick(file: &[u8], wanted: u64, room: &mut [u8]) {
+fn say_pick(out: &impl Print, file: &[u8], wanted: u64, room: &mut [u8]) -> io::Result<()> {
     let picked = pick::pick(file, wanted, room);
     match picked {
-        Picked::Written(size) => print_volume(first(room, size)),
-        Picked::Refused(number, place) => say_refused(number, place),
+        Picked::Written(size) => print_volume(out, first(room, size)),
+        Picked::Refused(number, place) => say_refused(out, number, place),
     }
 }
 
 // Output 1 is for the command line. Output 2 then picks what was written by the other mask: nothing, where the first pick is refused.
-fn pick_asked(head: &[u8], file: &[u8], room: &mut [u8], second: &mut [u8]) {
+fn pick_asked(
+    out: &impl Print,
+    head: &[u8],
+    file: &[u8],
+    room: &mut [u8],
+    second: &mut [u8],
+) -> io::Result<()> {
     let wanted = le::u64_at(head, 12);
     match le::u32_at(head, 8) {
-        1 => say_pick(file, wanted, room),
+        1 => say_pick(out, file, wanted, room),
         2 => {
-            let size = print_pick(file, wanted, room);
-            print_pick(first(room, size), le::u64_at(head, 20), second);
+            let size = print_pick(out, file, wanted, room)?;
+            print_pick(out, first(room, size), le::u64_at(head, 20), second)?;
+            Ok(())
         }
         _ => {
-            print_pick(file, wanted, room);
+            print_pick(out, file, wanted, room)?;
+            Ok(())
         }
     }
 }
 
 // The rooms may be longer than was asked for.
-fn answer(head: &[u8], file: &[u8], room: &mut [u8], second: &mut [u8]) {
+fn answer(
+    out: &impl Print,
+    head: &[u8],
+    file: &[u8],
+    room: &mut [u8],
+    second: &mut [u8],
+) -> io::Result<()> {
     let asked = le::u32_at(head, 4) as usize;
     if asked <= room.len() && asked <= second.len() {
-        pick_asked(head, file, &mut room[..asked], &mut second[..asked]);
+        pick_asked(out, head, file, &mut room[..asked], &mut second[..asked])
     } else {
-        word(b"too long\n");
+        word(out, b"too long\n")
     }
 }
 
 // The case at a place, and the place behind it.
-fn case(input: &[u8], at: usize, room: &mut [u8], second: &mut [u8]) -> usize
+fn case(
+    out: &impl Print,
+    input: &[u8],
+    at: usize,
+    room: &mut [u8],
+    second: &mut [u8],
+) -> io::Result<usize>
     requires { at < length input.now }
-    ensures { at < result }
+    ensures { IfOk result (λ next. at < next) }
 {
     let size = le::u32_at(input, at) as usize;
     let next = at + 28 + size;
     if input.len() < next {
-        word(b"cut short\n");
-        return next;
+        word(out, b"cut short\n")?;
+        return Ok(next);
     }
     answer(
+        out,
         first(behind(input, at), 28),
         first(behind(input, at + 28), size),
         room,
         second,
-    );
-    next
+    )?;
+    Ok(next)
 }
 
-fn each(input: &[u8], room: &mut [u8], second: &mut [u8]) {
+fn each(out: &impl Print, input: &[u8], room: &mut [u8], second: &mut [u8]) -> io::Result<()> {
     let mut at = 0;
     while at < input.len() {
-        at = case(input, at, room, second);
+        at = case(out, input, at, room, second)?;
     }
+    Ok(())
 }
 
 // Each array is made where it is lent, and not by a function that hands it over: that would need the stack for it twice.
-fn each_in_rooms(input: &[u8]) {
+fn each_in_rooms(out: &impl Print, input: &[u8]) -> io::Result<()> {
     let mut room = [0u8; 2097152];
     let mut second = [0u8; 2097152];
-    each(input, &mut room, &mut second);
+    each(out, input, &mut room, &mut second)
 }
 
-fn run(buf: &mut [u8]) {
-    let n = io::read_full(STDIN_FILENO, buf);
+fn run(out: &impl Print, input: &mut impl Read, buf: &mut [u8]) -> io::Result<()> {
+    let n = read_full(input, buf)?;
     if n < buf.len() {
-        each_in_rooms(first(buf, n));
+        each_in_rooms(out, first(buf, n))
     } else {
-        word(b"too long\n");
+        word(out, b"too long\n")
     }
 }
 
-fn main() {
+fn main(rt: HostRuntime) -> io::Result<()> {
     // one byte more than the most that is taken
     let mut buf = [0u8; 2097181];
-    run(&mut buf);
+    run(&rt, &mut rt.stdin(), &mut buf)
 }

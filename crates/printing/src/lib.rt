@@ -1,14 +1,15 @@
-// What the programs share: words, numbers, counts and listings on standard output, the start and the rest of a slice, and a room filled
-// and shown in one number.
+// What the programs share: words, numbers, counts and listings on standard output, standard input read into a room, the start and the
+// rest of a slice, and a room filled and shown in one number.
 #![tactic(auto)]
 
-ghost use Rattle.std.specs.Prelude.{◌≡◌, nat_abs, length, take, drop, replicate};
+ghost use Rattle.std.specs.Prelude.{◌≡◌, ◌≤◌, IfOk, nat_abs, length, take, drop, replicate};
 ghost use Rattle.printing.specs.Sum.{mixed_of, sum_from};
 
 use gates::Counts;
-use libc::STDOUT_FILENO;
 use listing::{Cursor, Line, Next};
 use reading::{Reading, Verdict};
+use std::io;
+use std::io::Read;
 
 // The first n bytes, or all where there are fewer.
 pub fn first(s: &[u8], n: usize) -> &[u8]
@@ -30,22 +31,37 @@ pub fn behind(s: &[u8], n: usize) -> &[u8]
     &s[0..0]
 }
 
-pub fn word(text: &[u8]) {
-    io::write_all(STDOUT_FILENO, text);
+// Fills a room from a reader, up to its length or to where the input ends, and answers how many bytes came.
+pub fn read_full(input: &mut impl Read, room: &mut [u8]) -> io::Result<usize>
+    ensures { IfOk result (λ n. n ≤ length room.new) }
+{
+    let mut done = 0;
+    while done < room.len() {
+        let n = input.read(&mut room[done..])?;
+        if n == 0 {
+            return Ok(done);
+        }
+        done += n;
+    }
+    Ok(done)
 }
 
-pub fn newline() {
-    word(b"\n");
+pub fn word(out: &impl Print, text: &[u8]) -> io::Result<()> {
+    out.write_all(text)
+}
+
+pub fn newline(out: &impl Print) -> io::Result<()> {
+    word(out, b"\n")
 }
 
 // With nothing before it, for a number that another sign than a space parts from the last.
-pub fn bare(n: u64) {
-    io::print_decimal(STDOUT_FILENO, n);
+pub fn bare(out: &impl Print, n: u64) -> io::Result<()> {
+    out.print(n)
 }
 
-pub fn number(n: u64) {
-    word(b" ");
-    bare(n);
+pub fn number(out: &impl Print, n: u64) -> io::Result<()> {
+    word(out, b" ")?;
+    bare(out, n)
 }
 
 // The size of a signed number. A negative one's complement is one short of its size, and fits where the size may not.
@@ -56,41 +72,41 @@ pub fn size(z: i32) -> u64
 }
 
 // With nothing before it, as `bare`.
-pub fn bare_signed(z: i32) {
+pub fn bare_signed(out: &impl Print, z: i32) -> io::Result<()> {
     if z < 0 {
-        word(b"-");
+        word(out, b"-")?;
     }
-    bare(size(z));
+    bare(out, size(z))
 }
 
-pub fn bare_refused(n: u32) {
-    word(b"refused");
-    number(n as u64);
+pub fn bare_refused(out: &impl Print, n: u32) -> io::Result<()> {
+    word(out, b"refused")?;
+    number(out, n as u64)
 }
 
-pub fn refused(n: u32) {
-    word(b" ");
-    bare_refused(n);
+pub fn refused(out: &impl Print, n: u32) -> io::Result<()> {
+    word(out, b" ")?;
+    bare_refused(out, n)
 }
 
 // With nothing before it, as `bare`.
-pub fn bare_verdict(v: Verdict) {
+pub fn bare_verdict(out: &impl Print, v: Verdict) -> io::Result<()> {
     match v {
-        Verdict::Complete => word(b"complete"),
+        Verdict::Complete => word(out, b"complete"),
         Verdict::Open(missing) => {
-            word(b"open");
-            number(missing as u64);
+            word(out, b"open")?;
+            number(out, missing as u64)
         }
         Verdict::Refused(n, place) => {
-            bare_refused(n);
-            number(place as u64);
+            bare_refused(out, n)?;
+            number(out, place as u64)
         }
     }
 }
 
-pub fn print_verdict(v: Verdict) {
-    word(b" ");
-    bare_verdict(v);
+pub fn print_verdict(out: &impl Print, v: Verdict) -> io::Result<()> {
+    word(out, b" ")?;
+    bare_verdict(out, v)
 }
 
 // A sum with one entry more.
@@ -114,24 +130,24 @@ pub fn sum(s: &[u8]) -> u32
 }
 
 // The checksum of all of a room, at a line's end, so that no byte is stored unseen.
-pub fn print_sum(room: &[u8]) {
-    number(sum(room) as u64);
-    newline();
+pub fn print_sum(out: &impl Print, room: &[u8]) -> io::Result<()> {
+    number(out, sum(room) as u64)?;
+    newline(out)
 }
 
 // What is told of a volume, and how many whole radials it has.
-pub fn print_read(r: Reading) {
+pub fn print_read(out: &impl Print, r: Reading) -> io::Result<()> {
     let verdict = r.verdict;
-    print_verdict(verdict);
-    number(r.radials as u64);
+    print_verdict(out, verdict)?;
+    number(out, r.radials as u64)
 }
 
 // A written volume for the command line: its length, and behind that line its bytes as they are.
-pub fn print_volume(volume: &[u8]) {
-    word(b"written");
-    number(volume.len() as u64);
-    newline();
-    word(volume);
+pub fn print_volume(out: &impl Print, volume: &[u8]) -> io::Result<()> {
+    word(out, b"written")?;
+    number(out, volume.len() as u64)?;
+    newline(out)?;
+    word(out, volume)
 }
 
 // One byte all over a room, so that what is stored there afterwards shows.
@@ -146,32 +162,32 @@ pub fn fill(room: &mut [u8], byte: u8)
 }
 
 // A number behind a sign.
-pub fn part(sign: &[u8], n: u64) {
-    word(sign);
-    bare(n);
+pub fn part(out: &impl Print, sign: &[u8], n: u64) -> io::Result<()> {
+    word(out, sign)?;
+    bare(out, n)
 }
 
 // The seven counts of a tally, each behind a sign.
-pub fn print_counts(sign: &[u8], c: Counts) {
-    part(sign, c.below);
-    part(sign, c.folded);
-    part(sign, c.not_scanned);
-    part(sign, c.unknown);
-    part(sign, c.reserved);
-    part(sign, c.value);
-    part(sign, c.class);
+pub fn print_counts(out: &impl Print, sign: &[u8], c: Counts) -> io::Result<()> {
+    part(out, sign, c.below)?;
+    part(out, sign, c.folded)?;
+    part(out, sign, c.not_scanned)?;
+    part(out, sign, c.unknown)?;
+    part(out, sign, c.reserved)?;
+    part(out, sign, c.value)?;
+    part(out, sign, c.class)
 }
 
 // The verdict, the bytes read and the whole radials.
-pub fn print_reading(r: Reading) {
+pub fn print_reading(out: &impl Print, r: Reading) -> io::Result<()> {
     let verdict = r.verdict;
-    print_verdict(verdict);
-    number(r.read as u64);
-    number(r.radials as u64);
-    newline();
+    print_verdict(out, verdict)?;
+    number(out, r.read as u64)?;
+    number(out, r.radials as u64)?;
+    newline(out)
 }
 
-fn print_line(line: Line) {
+fn print_line(out: &impl Print, line: Line) -> io::Result<()> {
     match line {
         Line::Radial {
             sequence,
@@ -179,37 +195,37 @@ fn print_line(line: Line) {
             state,
             cut,
         } => {
-            word(b"radial");
-            number(sequence as u64);
-            number(place as u64);
-            number(state as u64);
-            number(cut as u64);
+            word(out, b"radial")?;
+            number(out, sequence as u64)?;
+            number(out, place as u64)?;
+            number(out, state as u64)?;
+            number(out, cut as u64)?;
         }
         Line::Moment {
             data_type,
             place,
             gates,
         } => {
-            word(b"moment");
-            number(data_type as u64);
-            number(place as u64);
-            number(gates as u64);
+            word(out, b"moment")?;
+            number(out, data_type as u64)?;
+            number(out, place as u64)?;
+            number(out, gates as u64)?;
         }
     }
-    newline();
+    newline(out)
 }
 
 // Every whole radial and its moments, a line each.
-pub fn print_lines(file: &[u8]) {
+pub fn print_lines(out: &impl Print, file: &[u8]) -> io::Result<()> {
     let mut c = Cursor::begin();
     loop {
         match listing::next_line(file, c) {
             Next::There(line, n) => {
-                print_line(line);
+                print_line(out, line)?;
                 c = n;
             }
             Next::End => {
-                return;
+                return Ok(());
             }
         }
     }

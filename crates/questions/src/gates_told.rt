@@ -3,8 +3,8 @@ use crate::print::{colon, mix, mix_signed, part, refused, signed, space};
 use ask::answers;
 use ask::answers::GateAnswer;
 use gates::{Coding, Gate, Told};
-use libc::STDOUT_FILENO;
 use printing::{newline, number, word};
+use std::io;
 
 // The bits of a value's float. No value is a NaN; the test saves the proof of that.
 fn bits_of(v: f64) -> u64 {
@@ -24,51 +24,53 @@ fn carried(gate: Gate) -> u64 {
     }
 }
 
-fn print_told(told: Told) {
+fn print_told(out: &impl Print, told: Told) -> io::Result<()> {
     let gate = told.gate;
-    number(gate.kind() as u64);
-    signed(told.difference);
-    number(told.scale as u64);
-    signed(told.hundredths);
-    space();
-    io::print_hex(STDOUT_FILENO, carried(gate), 16);
+    number(out, gate.kind() as u64)?;
+    signed(out, told.difference)?;
+    number(out, told.scale as u64)?;
+    signed(out, told.hundredths)?;
+    space(out)?;
+    let bits = carried(gate);
+    print!(out; "{bits:016x}")
 }
 
 // Answers whether there is such a gate.
-fn print_answer(answer: GateAnswer) -> bool {
+fn print_answer(out: &impl Print, answer: GateAnswer) -> io::Result<bool> {
     match answer {
         GateAnswer::Answered(told) => {
-            print_told(told);
-            true
+            print_told(out, told)?;
+            Ok(true)
         }
         GateAnswer::Refused(n) => {
-            space();
-            refused(n);
-            false
+            space(out)?;
+            refused(out, n)?;
+            Ok(false)
         }
     }
 }
 
-fn print_gate(file: &[u8], sequence: u32, t: u32, i: usize) -> bool {
-    word(b"gate");
-    number(sequence as u64);
-    number(t as u64);
-    number(i as u64);
-    colon();
-    let there = print_answer(answers::gate(file, sequence as usize, t, i));
-    newline();
-    there
+fn print_gate(out: &impl Print, file: &[u8], sequence: u32, t: u32, i: usize) -> io::Result<bool> {
+    word(out, b"gate")?;
+    number(out, sequence as u64)?;
+    number(out, t as u64)?;
+    number(out, i as u64)?;
+    colon(out)?;
+    let there = print_answer(out, answers::gate(file, sequence as usize, t, i))?;
+    newline(out)?;
+    Ok(there)
 }
 
 // A line for each gate, to the first that is refused. No moment of the volume has 20 gates.
-pub(crate) fn print_each(file: &[u8], sequence: u32, t: u32) {
+pub(crate) fn print_each(out: &impl Print, file: &[u8], sequence: u32, t: u32) -> io::Result<()> {
     let mut i = 0;
     while i < 20 {
-        if !print_gate(file, sequence, t, i) {
-            return;
+        if !print_gate(out, file, sequence, t, i)? {
+            return Ok(());
         }
         i += 1;
     }
+    Ok(())
 }
 
 fn mix_told(sum: u64, told: Told) -> u64 {
@@ -98,35 +100,34 @@ fn sum(file: &[u8], sequence: u32, t: u32) -> u64 {
     s
 }
 
-fn print_refusal(answer: GateAnswer) {
+fn print_refusal(out: &impl Print, answer: GateAnswer) -> io::Result<()> {
     match answer {
-        GateAnswer::Answered(_) => {
-            word(b"yes");
-        }
-        GateAnswer::Refused(n) => {
-            refused(n);
-        }
+        GateAnswer::Answered(_) => { word(out, b"yes") }
+        GateAnswer::Refused(n) => { refused(out, n) }
     }
 }
 
 // What is told past all gates, and the checksum.
-pub(crate) fn print_all(file: &[u8], sequence: u32, t: u32) {
-    print_refusal(answers::gate(file, sequence as usize, t, 18446744073709551615));
-    part(sum(file, sequence, t));
+pub(crate) fn print_all(out: &impl Print, file: &[u8], sequence: u32, t: u32) -> io::Result<()> {
+    print_refusal(
+        out,
+        answers::gate(file, sequence as usize, t, 18446744073709551615),
+    )?;
+    part(out, sum(file, sequence, t))
 }
 
 // What `gates` tells of a code with an offset of 66.
-pub(crate) fn print_over(scale: u16, code: u16) {
-    word(b"code");
-    number(code as u64);
-    word(b" less 66 over");
-    number(scale as u64);
-    colon();
+pub(crate) fn print_over(out: &impl Print, scale: u16, code: u16) -> io::Result<()> {
+    word(out, b"code")?;
+    number(out, code as u64)?;
+    word(out, b" less 66 over")?;
+    number(out, scale as u64)?;
+    colon(out)?;
     let c = Coding {
         data_type: 2,
         scale,
         offset: 66,
     };
-    print_told(gates::tell(c, code));
-    newline();
+    print_told(out, gates::tell(c, code))?;
+    newline(out)
 }

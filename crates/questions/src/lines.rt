@@ -6,6 +6,7 @@ use ask::answers::RadialAnswer;
 use moment::Moment;
 use printing::{bare, newline, number, word};
 use radial::Radial;
+use std::io;
 
 #[derive(Clone, Copy)]
 pub(crate) enum Question {
@@ -15,78 +16,85 @@ pub(crate) enum Question {
     Tallies,
 }
 
-fn print_found(place: usize, h: Radial) {
-    number(place as u64);
-    number(h.state as u64);
-    number(h.sequence as u64);
-    number(h.elevation_number as u64);
+fn print_found(out: &impl Print, place: usize, h: Radial) -> io::Result<()> {
+    number(out, place as u64)?;
+    number(out, h.state as u64)?;
+    number(out, h.sequence as u64)?;
+    number(out, h.elevation_number as u64)
 }
 
-fn print_no_radial(n: u32, place: usize) {
-    space();
-    refused(n);
-    number(place as u64);
+fn print_no_radial(out: &impl Print, n: u32, place: usize) -> io::Result<()> {
+    space(out)?;
+    refused(out, n)?;
+    number(out, place as u64)
 }
 
-fn print_radial_answer(a: RadialAnswer) {
+fn print_radial_answer(out: &impl Print, a: RadialAnswer) -> io::Result<()> {
     if a.number == 0 {
-        print_found(a.place, a.header);
+        print_found(out, a.place, a.header)
     } else {
-        print_no_radial(a.number, a.place);
+        print_no_radial(out, a.number, a.place)
     }
 }
 
-fn print_radial(file: &[u8], sequence: u32) {
-    word(b"radial");
-    number(sequence as u64);
-    colon();
-    print_radial_answer(answers::radial(file, sequence as usize));
-    newline();
+fn print_radial(out: &impl Print, file: &[u8], sequence: u32) -> io::Result<()> {
+    word(out, b"radial")?;
+    number(out, sequence as u64)?;
+    colon(out)?;
+    print_radial_answer(out, answers::radial(file, sequence as usize))?;
+    newline(out)
 }
 
-fn print_ends(bytes: &[u8]) {
+fn print_ends(out: &impl Print, bytes: &[u8]) -> io::Result<()> {
     let n = bytes.len();
     if 0 < n {
-        part(wide(bytes[0]));
-        part(wide(bytes[n - 1]));
+        part(out, wide(bytes[0]))?;
+        part(out, wide(bytes[n - 1]))?;
     }
+    Ok(())
 }
 
-fn print_header(h: Moment) {
-    bare(h.scale as u64);
-    part(h.offset as u64);
-    part(h.bin_length as u64);
-    part(h.length as u64);
+fn print_header(out: &impl Print, h: Moment) -> io::Result<()> {
+    bare(out, h.scale as u64)?;
+    part(out, h.offset as u64)?;
+    part(out, h.bin_length as u64)?;
+    part(out, h.length as u64)
 }
 
 // The header, and of the data the number of bytes, the first and the last.
-fn print_moment(file: &[u8], sequence: u32, t: u32) {
+fn print_moment(out: &impl Print, file: &[u8], sequence: u32, t: u32) -> io::Result<()> {
     let a = answers::moment(file, sequence as usize, t);
     let bytes = answers::moment_data(file, sequence as usize, t);
     if a.number == 0 {
-        print_header(a.header);
+        print_header(out, a.header)?;
     } else {
-        refused(a.number);
+        refused(out, a.number)?;
     }
-    part(bytes.len() as u64);
-    print_ends(bytes);
+    part(out, bytes.len() as u64)?;
+    print_ends(out, bytes)
 }
 
-fn print_answer(file: &[u8], question: Question, k: u32, t: u32) {
+fn print_answer(
+    out: &impl Print,
+    file: &[u8],
+    question: Question,
+    k: u32,
+    t: u32,
+) -> io::Result<()> {
     match question {
-        Question::Moments => print_moment(file, k, t),
-        Question::Gates => gates_told::print_all(file, k, t),
-        Question::Rows => rows_told::print_row(file, k, t, 16, 16),
-        Question::Tallies => tallies_told::print_tally(file, k, t),
+        Question::Moments => print_moment(out, file, k, t),
+        Question::Gates => gates_told::print_all(out, file, k, t),
+        Question::Rows => rows_told::print_row(out, file, k, t, 16, 16),
+        Question::Tallies => tallies_told::print_tally(out, file, k, t),
     }
 }
 
-fn print_name(question: Question) {
+fn print_name(out: &impl Print, question: Question) -> io::Result<()> {
     match question {
-        Question::Moments => word(b"moments"),
-        Question::Gates => word(b"gates"),
-        Question::Rows => word(b"rows"),
-        Question::Tallies => word(b"tallies"),
+        Question::Moments => word(out, b"moments"),
+        Question::Gates => word(out, b"gates"),
+        Question::Rows => word(out, b"rows"),
+        Question::Tallies => word(out, b"tallies"),
     }
 }
 
@@ -101,41 +109,49 @@ fn type_asked(i: u32) -> u32 {
     }
 }
 
-fn print_type(file: &[u8], question: Question, k: u32, t: u32) {
-    number(t as u64);
-    word(b"=");
-    print_answer(file, question, k, t);
+fn print_type(out: &impl Print, file: &[u8], question: Question, k: u32, t: u32) -> io::Result<()> {
+    number(out, t as u64)?;
+    word(out, b"=")?;
+    print_answer(out, file, question, k, t)
 }
 
-fn print_types(file: &[u8], question: Question, k: u32) {
+fn print_types(out: &impl Print, file: &[u8], question: Question, k: u32) -> io::Result<()> {
     let mut i = 0;
     while i < 16 {
-        print_type(file, question, k, type_asked(i));
+        print_type(out, file, question, k, type_asked(i))?;
         i += 1;
     }
+    Ok(())
 }
 
-fn print_line(file: &[u8], question: Question, k: u32) {
-    print_name(question);
-    number(k as u64);
-    colon();
-    print_types(file, question, k);
-    newline();
+fn print_line(out: &impl Print, file: &[u8], question: Question, k: u32) -> io::Result<()> {
+    print_name(out, question)?;
+    number(out, k as u64)?;
+    colon(out)?;
+    print_types(out, file, question, k)?;
+    newline(out)
 }
 
 // A line for each number below an end.
-pub(crate) fn print_lines(file: &[u8], question: Question, end: u32) {
+pub(crate) fn print_lines(
+    out: &impl Print,
+    file: &[u8],
+    question: Question,
+    end: u32,
+) -> io::Result<()> {
     let mut k = 0;
     while k < end {
-        print_line(file, question, k);
+        print_line(out, file, question, k)?;
         k += 1;
     }
+    Ok(())
 }
 
-pub(crate) fn print_radials(file: &[u8], end: u32) {
+pub(crate) fn print_radials(out: &impl Print, file: &[u8], end: u32) -> io::Result<()> {
     let mut k = 0;
     while k < end {
-        print_radial(file, k);
+        print_radial(out, file, k)?;
         k += 1;
     }
+    Ok(())
 }

@@ -1,35 +1,36 @@
 // Signs, parts of an answer, signed numbers and checksums.
 use printing::{bare, bare_signed, size, word};
+use std::io;
 
-pub(crate) fn space() {
-    word(b" ");
+pub(crate) fn space(out: &impl Print) -> io::Result<()> {
+    word(out, b" ")
 }
 
-pub(crate) fn colon() {
-    word(b":");
+pub(crate) fn colon(out: &impl Print) -> io::Result<()> {
+    word(out, b":")
 }
 
-pub(crate) fn part(n: u64) {
-    printing::part(b"/", n);
+pub(crate) fn part(out: &impl Print, n: u64) -> io::Result<()> {
+    printing::part(out, b"/", n)
 }
 
-pub(crate) fn refused(n: u32) {
-    word(b"no");
-    bare(n as u64);
+pub(crate) fn refused(out: &impl Print, n: u32) -> io::Result<()> {
+    word(out, b"no")?;
+    bare(out, n as u64)
 }
 
 pub(crate) fn wide(x: u8) -> u64 {
     x as u64
 }
 
-pub(crate) fn signed(z: i32) {
-    space();
-    bare_signed(z);
+pub(crate) fn signed(out: &impl Print, z: i32) -> io::Result<()> {
+    space(out)?;
+    bare_signed(out, z)
 }
 
-pub(crate) fn signed_part(z: i32) {
-    word(b"/");
-    bare_signed(z);
+pub(crate) fn signed_part(out: &impl Print, z: i32) -> io::Result<()> {
+    word(out, b"/")?;
+    bare_signed(out, z)
 }
 
 // A checksum with one number more: order counts, and every sum stays below 65,521.

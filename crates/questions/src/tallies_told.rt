@@ -4,15 +4,16 @@ use ask::tallies;
 use ask::tallies::{Sums, Tally, TallyAnswer};
 use gates::Counts;
 use printing::{bare, newline, number, print_counts, word};
+use std::io;
 use wedge::Wedge;
 
-fn print_counted(tally: Tally) {
+fn print_counted(out: &impl Print, tally: Tally) -> io::Result<()> {
     let sums = tally.sums;
-    bare(tally.wedge.start as u64);
-    part(tally.wedge.end as u64);
-    part(sums.radials);
-    part(sums.blanks);
-    print_counts(b"/", sums.counts);
+    bare(out, tally.wedge.start as u64)?;
+    part(out, tally.wedge.end as u64)?;
+    part(out, sums.radials)?;
+    part(out, sums.blanks)?;
+    print_counts(out, b"/", sums.counts)
 }
 
 // No two fields hold the same, so that none can stand for another unseen.
@@ -69,30 +70,39 @@ fn same(a: Tally, b: Tally) -> bool {
 }
 
 // Prints only where the lent record does not end as it should: with the tally, or after a refusal with its marks.
-fn print_lent(file: &[u8], cut: u32, t: u32, wedge: Wedge, number: u32, tally: Tally) {
+fn print_lent(
+    out: &impl Print,
+    file: &[u8],
+    cut: u32,
+    t: u32,
+    wedge: Wedge,
+    number: u32,
+    tally: Tally,
+) -> io::Result<()> {
     let lent = lent::tally_by(marked(), file, cut, t, wedge);
     let same = same(lent.tally, tally);
     if lent.number != number || !same {
-        word(b" lent otherwise");
+        word(out, b" lent otherwise")?;
     }
+    Ok(())
 }
 
-fn print_in(file: &[u8], cut: u32, t: u32, wedge: Wedge) {
+fn print_in(out: &impl Print, file: &[u8], cut: u32, t: u32, wedge: Wedge) -> io::Result<()> {
     match tallies::tally_of(file, cut, t, wedge) {
         TallyAnswer::Counted(tally) => {
-            print_counted(tally);
-            print_lent(file, cut, t, wedge, 0, tally);
+            print_counted(out, tally)?;
+            print_lent(out, file, cut, t, wedge, 0, tally)
         }
         TallyAnswer::Refused(n) => {
-            refused(n);
-            print_lent(file, cut, t, wedge, n, marked());
+            refused(out, n)?;
+            print_lent(out, file, cut, t, wedge, n, marked())
         }
     }
 }
 
 // In the full circle.
-pub(crate) fn print_tally(file: &[u8], cut: u32, t: u32) {
-    print_in(file, cut, t, Wedge { start: 0, end: 0 });
+pub(crate) fn print_tally(out: &impl Print, file: &[u8], cut: u32, t: u32) -> io::Result<()> {
+    print_in(out, file, cut, t, Wedge { start: 0, end: 0 })
 }
 
 fn wedge_from(start: u32, end: u32) -> Wedge {
@@ -125,27 +135,28 @@ fn wedge_asked(i: u32) -> Wedge {
     }
 }
 
-fn print_wedge(file: &[u8], cut: u32, t: u32, wedge: Wedge) {
-    number(wedge.start as u64);
-    word(b"-");
-    bare(wedge.end as u64);
-    word(b"=");
-    print_in(file, cut, t, wedge);
+fn print_wedge(out: &impl Print, file: &[u8], cut: u32, t: u32, wedge: Wedge) -> io::Result<()> {
+    number(out, wedge.start as u64)?;
+    word(out, b"-")?;
+    bare(out, wedge.end as u64)?;
+    word(out, b"=")?;
+    print_in(out, file, cut, t, wedge)
 }
 
-fn print_each(file: &[u8], cut: u32, t: u32) {
+fn print_each(out: &impl Print, file: &[u8], cut: u32, t: u32) -> io::Result<()> {
     let mut i = 0;
     while i < 20 {
-        print_wedge(file, cut, t, wedge_asked(i));
+        print_wedge(out, file, cut, t, wedge_asked(i))?;
         i += 1;
     }
+    Ok(())
 }
 
-pub(crate) fn print_wedges(file: &[u8], cut: u32, t: u32) {
-    word(b"wedges");
-    number(cut as u64);
-    number(t as u64);
-    colon();
-    print_each(file, cut, t);
-    newline();
+pub(crate) fn print_wedges(out: &impl Print, file: &[u8], cut: u32, t: u32) -> io::Result<()> {
+    word(out, b"wedges")?;
+    number(out, cut as u64)?;
+    number(out, t as u64)?;
+    colon(out)?;
+    print_each(out, file, cut, t)?;
+    newline(out)
 }

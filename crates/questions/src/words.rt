@@ -4,48 +4,55 @@ use ask::answers;
 use ask::answers::GateAnswer;
 use gates::Gate;
 use printing::{newline, number, word};
+use std::io;
 
-fn say(answer: GateAnswer) {
+fn say(out: &impl Print, answer: GateAnswer) -> io::Result<()> {
     match answer {
         GateAnswer::Answered(told) => {
             let gate = told.gate;
-            say_gate(gate)
+            say_gate(out, gate)
         }
-        GateAnswer::Refused(number) => say_refusal(number),
+        GateAnswer::Refused(number) => say_refusal(out, number),
     }
 }
 
-fn say_gate(gate: Gate) {
+fn say_gate(out: &impl Print, gate: Gate) -> io::Result<()> {
     match gate {
-        Gate::BelowThreshold => word(b" no echo"),
-        Gate::RangeFolded => word(b" range folded"),
-        Gate::NotScanned => word(b" the radar did not look"),
-        Gate::Unknown => word(b" unknown"),
-        Gate::Reserved => word(b" reserved"),
-        Gate::Value(_) => word(b" a value"),
-        Gate::Class(code) => say_class(code),
+        Gate::BelowThreshold => word(out, b" no echo"),
+        Gate::RangeFolded => word(out, b" range folded"),
+        Gate::NotScanned => word(out, b" the radar did not look"),
+        Gate::Unknown => word(out, b" unknown"),
+        Gate::Reserved => word(out, b" reserved"),
+        Gate::Value(_) => word(out, b" a value"),
+        Gate::Class(code) => say_class(out, code),
     }
 }
 
-fn say_class(code: u16) {
-    word(b" class");
-    number(code as u64);
+fn say_class(out: &impl Print, code: u16) -> io::Result<()> {
+    word(out, b" class")?;
+    number(out, code as u64)
 }
 
-fn say_refusal(number: u32) {
+fn say_refusal(out: &impl Print, number: u32) -> io::Result<()> {
     match number {
-        30 => word(b" nothing yet: no such whole radial"),
-        31 => word(b" no such moment in the radial"),
-        _ => word(b" no such gate in the moment"),
+        30 => word(out, b" nothing yet: no such whole radial"),
+        31 => word(out, b" no such moment in the radial"),
+        _ => word(out, b" no such gate in the moment"),
     }
 }
 
-pub(crate) fn print_words(file: &[u8], sequence: u32, t: u32, i: usize) {
-    word(b"in words");
-    number(sequence as u64);
-    number(t as u64);
-    number(i as u64);
-    colon();
-    say(answers::gate(file, sequence as usize, t, i));
-    newline();
+pub(crate) fn print_words(
+    out: &impl Print,
+    file: &[u8],
+    sequence: u32,
+    t: u32,
+    i: usize,
+) -> io::Result<()> {
+    word(out, b"in words")?;
+    number(out, sequence as u64)?;
+    number(out, t as u64)?;
+    number(out, i as u64)?;
+    colon(out)?;
+    say(out, answers::gate(file, sequence as usize, t, i))?;
+    newline(out)
 }

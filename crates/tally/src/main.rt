@@ -8,39 +8,53 @@ ghost use Rattle.std.specs.Prelude.{◌≡◌, length};
 
 use ask::tallies;
 use ask::tallies::{Tally, TallyAnswer};
-use libc::STDIN_FILENO;
-use printing::{bare_refused, bare_verdict, behind, first, newline, part, print_counts, word};
+use printing::{
+    bare_refused, bare_verdict, behind, first, newline, part, print_counts, read_full, word,
+};
 use reading::Verdict;
+use std::io;
 use wedge::Wedge;
 
-fn print_tally(v: Verdict, t: Tally) {
-    word(b"verdict\tstart\tend\tradials\tspot blanks\t");
-    word(b"below threshold\trange folded\tnot scanned\tunknown\treserved\tvalues\tclasses\n");
+fn print_tally(out: &impl Print, v: Verdict, t: Tally) -> io::Result<()> {
+    word(out, b"verdict\tstart\tend\tradials\tspot blanks\t")?;
+    word(
+        out,
+        b"below threshold\trange folded\tnot scanned\tunknown\treserved\tvalues\tclasses\n",
+    )?;
     let sums = t.sums;
-    bare_verdict(v);
-    part(b"\t", t.wedge.start as u64);
-    part(b"\t", t.wedge.end as u64);
-    part(b"\t", sums.radials);
-    part(b"\t", sums.blanks);
-    print_counts(b"\t", sums.counts);
-    newline();
+    bare_verdict(out, v)?;
+    part(out, b"\t", t.wedge.start as u64)?;
+    part(out, b"\t", t.wedge.end as u64)?;
+    part(out, b"\t", sums.radials)?;
+    part(out, b"\t", sums.blanks)?;
+    print_counts(out, b"\t", sums.counts)?;
+    newline(out)
 }
 
-fn say_refusal(n: u32) {
+fn say_refusal(out: &impl Print, n: u32) -> io::Result<()> {
     match n {
-        61 => word(b"the start and the end of a wedge are 0 to 35999 hundredths of a degree\n"),
-        30 => word(b"nothing yet: the block of that cut is not among the accepted ones\n"),
-        _ => word(b"no whole radial of that cut in that wedge has that type\n"),
+        61 => word(
+            out,
+            b"the start and the end of a wedge are 0 to 35999 hundredths of a degree\n",
+        ),
+        30 => word(
+            out,
+            b"nothing yet: the block of that cut is not among the accepted ones\n",
+        ),
+        _ => word(
+            out,
+            b"no whole radial of that cut in that wedge has that type\n",
+        ),
     }
 }
 
-fn print_refused(n: u32) {
-    bare_refused(n);
-    word(b" 0\n");
-    say_refusal(n);
+fn print_refused(out: &impl Print, n: u32) -> io::Result<()> {
+    bare_refused(out, n)?;
+    word(out, b" 0\n")?;
+    say_refusal(out, n)
 }
 
-fn answer(question: &[u8], volume: &[u8]) {
+fn answer(out: &impl Print, question: &[u8], volume: &[u8]) -> io::Result<()> {
     let wedge = Wedge {
         start: le::u32_at(question, 8),
         end: le::u32_at(question, 12),
@@ -54,9 +68,9 @@ fn answer(question: &[u8], volume: &[u8]) {
         TallyAnswer::Counted(t) => {
             let r = reading::read(volume);
             let verdict = r.verdict;
-            print_tally(verdict, t);
+            print_tally(out, verdict, t)
         }
-        TallyAnswer::Refused(n) => print_refused(n),
+        TallyAnswer::Refused(n) => print_refused(out, n),
     }
 }
 
@@ -67,12 +81,12 @@ fn room() -> [u8; 2097169]
     [0; 2097169]
 }
 
-fn main() {
+fn main(rt: HostRuntime) -> io::Result<()> {
     let mut buf = room();
-    let n = io::read_full(STDIN_FILENO, &mut buf);
+    let n = read_full(&mut rt.stdin(), &mut buf)?;
     if n < 2097169 {
-        answer(first(&buf, 16), behind(first(&buf, n), 16));
+        answer(&rt, first(&buf, 16), behind(first(&buf, n), 16))
     } else {
-        word(b"too long\n");
+        word(&rt, b"too long\n")
     }
 }

@@ -8,68 +8,78 @@ mod angles;
 mod numbers;
 mod words;
 
-ghost use Rattle.std.specs.Prelude.{◌≡◌, ◌≤◌, ◌<◌, length};
+ghost use Rattle.std.specs.Prelude.{◌≡◌, ◌≤◌, ◌<◌, length, IfOk};
 
 use citing::{answers, refusals};
-use libc::STDIN_FILENO;
-use printing::{behind, first, newline, word};
+use printing::{behind, first, newline, read_full, word};
+use std::io;
 
 // The question at a place.
-fn question(volume: &[u8], input: &[u8], at: usize)
+fn question(out: &impl Print, volume: &[u8], input: &[u8], at: usize) -> io::Result<()>
     requires { at < length input.now }
 {
-    words::say_gate(answers::gate(
-        volume,
-        le::u32_at(input, at) as usize,
-        le::u32_at(input, at + 4),
-        le::u32_at(input, at + 8) as usize,
-    ));
+    words::say_gate(
+        out,
+        answers::gate(
+            volume,
+            le::u32_at(input, at) as usize,
+            le::u32_at(input, at + 4),
+            le::u32_at(input, at + 8) as usize,
+        ),
+    )
 }
 
 // So many questions from a place on, and the place behind them.
-fn questions(volume: &[u8], input: &[u8], from: usize, count: u32) -> usize
-    ensures { from ≤ result }
+fn questions(
+    out: &impl Print,
+    volume: &[u8],
+    input: &[u8],
+    from: usize,
+    count: u32,
+) -> io::Result<usize>
+    ensures { IfOk result (λ next. from ≤ next) }
 {
     let mut at = from;
     let mut left = count;
     while 0 < left {
         if input.len() <= at {
-            return at;
+            return Ok(at);
         }
         if from < at {
-            newline();
+            newline(out)?;
         }
-        question(volume, input, at);
+        question(out, volume, input, at)?;
         at += 12;
         left -= 1;
     }
-    at
+    Ok(at)
 }
 
 // The case at a place, and the place behind it.
-fn case(input: &[u8], at: usize) -> usize
+fn case(out: &impl Print, input: &[u8], at: usize) -> io::Result<usize>
     requires { at < length input.now }
-    ensures { at < result }
+    ensures { IfOk result (λ next. at < next) }
 {
     let n = le::u32_at(input, at) as usize;
     let count = le::u32_at(input, at + 4);
     let volume = first(behind(input, at + 8), n);
     let next = at + 8 + n;
     if count == 0 {
-        words::say_file(refusals::file(volume));
-        return next;
+        words::say_file(out, refusals::file(volume))?;
+        return Ok(next);
     }
-    questions(volume, input, next, count)
+    questions(out, volume, input, next, count)
 }
 
-fn each(input: &[u8]) {
+fn each(out: &impl Print, input: &[u8]) -> io::Result<()> {
     let mut at = 0;
     while at < input.len() {
         if 0 < at {
-            newline();
+            newline(out)?;
         }
-        at = case(input, at);
+        at = case(out, input, at)?;
     }
+    Ok(())
 }
 
 // One byte more than the longest volume and what is said before and behind it.
@@ -79,12 +89,12 @@ fn room() -> [u8; 2097173]
     [0; 2097173]
 }
 
-fn main() {
+fn main(rt: HostRuntime) -> io::Result<()> {
     let mut buf = room();
-    let n = io::read_full(STDIN_FILENO, &mut buf);
+    let n = read_full(&mut rt.stdin(), &mut buf)?;
     if n < 2097173 {
-        each(first(&buf, n));
+        each(&rt, first(&buf, n))
     } else {
-        word(b"too long\n");
+        word(&rt, b"too long\n")
     }
 }

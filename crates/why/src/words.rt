@@ -7,50 +7,51 @@ use citing::refusals::{Block, Cited, Why};
 use gates::{Gate, Told};
 use printing::{bare, bare_refused, bare_signed, newline, number, part, word};
 use rules::check::Clause;
+use std::io;
 use walk::due::Due;
 
-fn say_refused(n: u32, place: usize) {
-    bare_refused(n);
-    number(place as u64);
-    newline();
+fn say_refused(out: &impl Print, n: u32, place: usize) -> io::Result<()> {
+    bare_refused(out, n)?;
+    number(out, place as u64)?;
+    newline(out)
 }
 
 // ---- the block
 
-fn say_kind(b: Block) {
+fn say_kind(out: &impl Print, b: Block) -> io::Result<()> {
     let kind = b.kind;
     match kind {
-        Due::Generic => word(b"generic header"),
-        Due::Site => word(b"site"),
-        Due::Task => word(b"task"),
-        Due::Cut => part(b"cut ", b.number as u64),
-        Due::Radial => part(b"radial ", b.number as u64),
+        Due::Generic => word(out, b"generic header"),
+        Due::Site => word(out, b"site"),
+        Due::Task => word(out, b"task"),
+        Due::Cut => part(out, b"cut ", b.number as u64),
+        Due::Radial => part(out, b"radial ", b.number as u64),
         // A moment: data is never cited, and at a volume's end it is the radial before it.
         _ => {
-            part(b"moment ", b.moment as u64);
-            part(b" of radial ", b.number as u64);
+            part(out, b"moment ", b.moment as u64)?;
+            part(out, b" of radial ", b.number as u64)
         }
     }
 }
 
-fn say_block(b: Block) {
-    word(b"block: ");
-    say_kind(b);
-    part(b", at byte ", b.place as u64);
-    newline();
+fn say_block(out: &impl Print, b: Block) -> io::Result<()> {
+    word(out, b"block: ")?;
+    say_kind(out, b)?;
+    part(out, b", at byte ", b.place as u64)?;
+    newline(out)
 }
 
 // ---- a row of the table: the field's name, and the words of the broken clause
 
-fn say_sign(negative: bool, under: &[u8], over: &[u8]) {
+fn say_sign(out: &impl Print, negative: bool, under: &[u8], over: &[u8]) -> io::Result<()> {
     if negative {
-        word(under);
+        word(out, under)
     } else {
-        word(over);
+        word(out, over)
     }
 }
 
-fn say_angle(a: Angle) {
+fn say_angle(out: &impl Print, a: Angle) -> io::Result<()> {
     match a {
         Angle::Hundredths {
             negative,
@@ -58,100 +59,103 @@ fn say_angle(a: Angle) {
             exact,
         } => {
             if !exact {
-                say_sign(negative, b"a little under ", b"a little over ");
+                say_sign(out, negative, b"a little under ", b"a little over ")?;
             }
-            print_size(negative, size as u64);
+            print_size(out, negative, size as u64)
         }
-        Angle::Beyond(negative) => say_sign(negative, b"under -1000000", b"over 1000000"),
-        Angle::Infinite(negative) => say_sign(negative, b"-infinity", b"infinity"),
-        Angle::NoNumber => word(b"no number"),
+        Angle::Beyond(negative) => say_sign(out, negative, b"under -1000000", b"over 1000000"),
+        Angle::Infinite(negative) => say_sign(out, negative, b"-infinity", b"infinity"),
+        Angle::NoNumber => word(out, b"no number"),
     }
 }
 
 // Up to the number that was found.
-fn say_field(f: Field, name: &[u8]) {
-    word(b"field: ");
-    word(name);
-    part(b", ", f.size as u64);
-    part(b" bytes at byte ", f.place as u64);
-    word(b"\nfound: ");
+fn say_field(out: &impl Print, f: Field, name: &[u8]) -> io::Result<()> {
+    word(out, b"field: ")?;
+    word(out, name)?;
+    part(out, b", ", f.size as u64)?;
+    part(out, b" bytes at byte ", f.place as u64)?;
+    word(out, b"\nfound: ")
 }
 
 // From there on.
-fn say_broken(f: Field, words: &[u8]) {
-    word(b", bytes");
-    print_bytes(f);
-    word(b"\nbroken: ");
-    word(words);
-    newline();
+fn say_broken(out: &impl Print, f: Field, words: &[u8]) -> io::Result<()> {
+    word(out, b", bytes")?;
+    print_bytes(out, f)?;
+    word(out, b"\nbroken: ")?;
+    word(out, words)?;
+    newline(out)
 }
 
-fn row(f: Field, name: &[u8], words: &[u8]) {
-    say_field(f, name);
-    print_found(f);
-    say_broken(f, words);
+fn row(out: &impl Print, f: Field, name: &[u8], words: &[u8]) -> io::Result<()> {
+    say_field(out, f, name)?;
+    print_found(out, f)?;
+    say_broken(out, f, words)
 }
 
-fn angle_row(f: Field, name: &[u8], words: &[u8]) {
-    say_field(f, name);
-    say_angle(angle_of(f.found));
-    say_broken(f, words);
+fn angle_row(out: &impl Print, f: Field, name: &[u8], words: &[u8]) -> io::Result<()> {
+    say_field(out, f, name)?;
+    say_angle(out, angle_of(f.found))?;
+    say_broken(out, f, words)
 }
 
 // ---- the table: by the number; by the field's place in its block, where a number has several fields; by which of the field's clauses
 // it is, where it has several. Each last row stands at `_`: no clause has a number, a place or a `which` that is not here.
 
-fn cut_number(f: Field, which: u8) {
+fn cut_number(out: &impl Print, f: Field, which: u8) -> io::Result<()> {
     match which {
-        1 => row(f, b"cut number", b"it is not 1..256"),
-        _ => row(f, b"cut number", b"it is not 1, while scan type is 2"),
+        1 => row(out, f, b"cut number", b"it is not 1..256"),
+        _ => row(out, f, b"cut number", b"it is not 1, while scan type is 2"),
     }
 }
 
-fn mode(f: Field, place: u8) {
+fn mode(out: &impl Print, f: Field, place: u8) -> io::Result<()> {
     match place {
-        0 => row(f, b"process mode", b"it is not 1..2"),
-        4 => row(f, b"wave form", b"it is not 0..6"),
-        16 => row(f, b"unfold mode", b"it is not 1..4"),
-        44 => row(f, b"log resolution", b"it is not 1..5000"),
-        48 => row(f, b"Doppler resolution", b"it is not 1..5000"),
-        _ => row(f, b"phase mode", b"it is not 1..3"),
+        0 => row(out, f, b"process mode", b"it is not 1..2"),
+        4 => row(out, f, b"wave form", b"it is not 0..6"),
+        16 => row(out, f, b"unfold mode", b"it is not 1..4"),
+        44 => row(out, f, b"log resolution", b"it is not 1..5000"),
+        48 => row(out, f, b"Doppler resolution", b"it is not 1..5000"),
+        _ => row(out, f, b"phase mode", b"it is not 1..3"),
     }
 }
 
-fn sequence(f: Field, which: u8) {
+fn sequence(out: &impl Print, f: Field, which: u8) -> io::Result<()> {
     match which {
         1 => row(
+            out,
             f,
             b"sequence",
             b"it is not 1 more than the radials before it",
         ),
-        _ => row(f, b"sequence", b"it would pass 65,536"),
+        _ => row(out, f, b"sequence", b"it would pass 65,536"),
     }
 }
 
-fn radial_number(f: Field, which: u8) {
+fn radial_number(out: &impl Print, f: Field, which: u8) -> io::Result<()> {
     match which {
         1 => row(
+            out,
             f,
             b"radial number",
             b"it is not the radial's count in its cut, from 1",
         ),
-        _ => row(f, b"radial number", b"the count is over 1000"),
+        _ => row(out, f, b"radial number", b"the count is over 1000"),
     }
 }
 
-fn time(f: Field, place: u8) {
+fn time(out: &impl Print, f: Field, place: u8) -> io::Result<()> {
     match place {
-        28 => row(f, b"seconds", b"it is below 0"),
-        _ => row(f, b"microseconds", b"it is not 0..999,999"),
+        28 => row(out, f, b"seconds", b"it is below 0"),
+        _ => row(out, f, b"microseconds", b"it is not 0..999,999"),
     }
 }
 
-fn moment_number(f: Field, which: u8) {
+fn moment_number(out: &impl Print, f: Field, which: u8) -> io::Result<()> {
     match which {
-        1 => row(f, b"moment number", b"it is not 1..64"),
+        1 => row(out, f, b"moment number", b"it is not 1..64"),
         _ => row(
+            out,
             f,
             b"moment number",
             b"33 times it is over the length of data",
@@ -159,22 +163,24 @@ fn moment_number(f: Field, which: u8) {
     }
 }
 
-fn data_type(f: Field, which: u8) {
+fn data_type(out: &impl Print, f: Field, which: u8) -> io::Result<()> {
     match which {
-        1 => row(f, b"type", b"it is not 1..64"),
-        2 => row(f, b"type", b"it was seen before in this radial"),
-        _ => row(f, b"type", b"its bit in the cut's moments mask is 0"),
+        1 => row(out, f, b"type", b"it is not 1..64"),
+        2 => row(out, f, b"type", b"it was seen before in this radial"),
+        _ => row(out, f, b"type", b"its bit in the cut's moments mask is 0"),
     }
 }
 
-fn bin_length(f: Field, which: u8) {
+fn bin_length(out: &impl Print, f: Field, which: u8) -> io::Result<()> {
     match which {
         1 => row(
+            out,
             f,
             b"bin length",
             b"it is not 1, while the type's bit in the cut's size mask is 0",
         ),
         _ => row(
+            out,
             f,
             b"bin length",
             b"it is not 2, while the type's bit in the cut's size mask is 1",
@@ -182,11 +188,12 @@ fn bin_length(f: Field, which: u8) {
     }
 }
 
-fn length(f: Field, which: u8) {
+fn length(out: &impl Print, f: Field, which: u8) -> io::Result<()> {
     match which {
-        1 => row(f, b"length", b"it is not 1..32,768"),
-        2 => row(f, b"length", b"it is not a multiple of bin length"),
+        1 => row(out, f, b"length", b"it is not 1..32,768"),
+        2 => row(out, f, b"length", b"it is not a multiple of bin length"),
         _ => row(
+            out,
             f,
             b"length",
             b"it is wrong for the tiling: the last moment leaves no byte, any other 33 for each after it",
@@ -194,35 +201,41 @@ fn length(f: Field, which: u8) {
     }
 }
 
-fn before_radials(c: Clause, f: Field) {
+fn before_radials(out: &impl Print, c: Clause, f: Field) -> io::Result<()> {
     let number = c.number;
     match number {
-        1 => row(f, b"magic", b"it differs from the magic, bytes 52 53 54 4D"),
-        2 => row(f, b"generic type", b"it is not 1"),
-        3 => angle_row(f, b"latitude", b"it is not in -90..90"),
-        4 => angle_row(f, b"longitude", b"it is not in -180..180"),
-        5 => row(f, b"polarization", b"it is not 1..4"),
-        6 => row(f, b"scan type", b"it is not 0..6"),
-        7 => row(f, b"start time", b"it is below 0"),
-        8 => cut_number(f, c.which),
-        _ => mode(f, c.place),
+        1 => row(
+            out,
+            f,
+            b"magic",
+            b"it differs from the magic, bytes 52 53 54 4D",
+        ),
+        2 => row(out, f, b"generic type", b"it is not 1"),
+        3 => angle_row(out, f, b"latitude", b"it is not in -90..90"),
+        4 => angle_row(out, f, b"longitude", b"it is not in -180..180"),
+        5 => row(out, f, b"polarization", b"it is not 1..4"),
+        6 => row(out, f, b"scan type", b"it is not 0..6"),
+        7 => row(out, f, b"start time", b"it is below 0"),
+        8 => cut_number(out, f, c.which),
+        _ => mode(out, f, c.place),
     }
 }
 
-fn in_radial(c: Clause, f: Field) {
+fn in_radial(out: &impl Print, c: Clause, f: Field) -> io::Result<()> {
     let number = c.number;
     match number {
-        10 => row(f, b"state", b"this state is not allowed here"),
-        11 => row(f, b"spot blank", b"it is not 0..1"),
-        12 => sequence(f, c.which),
-        13 => radial_number(f, c.which),
-        14 => row(f, b"elevation number", b"it is not the cut's number"),
-        15 => angle_row(f, b"azimuth", b"it is not in 0..360"),
-        16 => angle_row(f, b"elevation", b"it is not in -2..90"),
-        17 => time(f, c.place),
-        18 => row(f, b"length of data", b"it is not 1..100,000"),
-        19 => moment_number(f, c.which),
+        10 => row(out, f, b"state", b"this state is not allowed here"),
+        11 => row(out, f, b"spot blank", b"it is not 0..1"),
+        12 => sequence(out, f, c.which),
+        13 => radial_number(out, f, c.which),
+        14 => row(out, f, b"elevation number", b"it is not the cut's number"),
+        15 => angle_row(out, f, b"azimuth", b"it is not in 0..360"),
+        16 => angle_row(out, f, b"elevation", b"it is not in -2..90"),
+        17 => time(out, f, c.place),
+        18 => row(out, f, b"length of data", b"it is not 1..100,000"),
+        19 => moment_number(out, f, c.which),
         _ => row(
+            out,
             f,
             b"state",
             b"bytes follow the volume that this radial closes",
@@ -230,118 +243,123 @@ fn in_radial(c: Clause, f: Field) {
     }
 }
 
-fn in_moment(c: Clause, f: Field) {
+fn in_moment(out: &impl Print, c: Clause, f: Field) -> io::Result<()> {
     let number = c.number;
     match number {
-        20 => data_type(f, c.which),
-        21 => row(f, b"scale", b"it is not 1..32,768"),
-        22 => row(f, b"offset", b"it is not 0..32,768"),
-        23 => bin_length(f, c.which),
-        _ => length(f, c.which),
+        20 => data_type(out, f, c.which),
+        21 => row(out, f, b"scale", b"it is not 1..32,768"),
+        22 => row(out, f, b"offset", b"it is not 0..32,768"),
+        23 => bin_length(out, f, c.which),
+        _ => length(out, f, c.which),
     }
 }
 
 // In three parts, since what a function costs its crate's check grows with the square of its rows.
-fn say_clause(c: Clause, f: Field) {
+fn say_clause(out: &impl Print, c: Clause, f: Field) -> io::Result<()> {
     let number = c.number;
     match number {
-        1..=9 => before_radials(c, f),
-        20..=24 => in_moment(c, f),
-        _ => in_radial(c, f),
+        1..=9 => before_radials(out, c, f),
+        20..=24 => in_moment(out, c, f),
+        _ => in_radial(out, c, f),
     }
 }
 
 // ---- a file
 
-fn say_cited(c: Cited) {
-    say_refused(c.clause.number, c.place);
-    say_block(c.block);
-    say_clause(c.clause, c.field);
+fn say_cited(out: &impl Print, c: Cited) -> io::Result<()> {
+    say_refused(out, c.clause.number, c.place)?;
+    say_block(out, c.block)?;
+    say_clause(out, c.clause, c.field)
 }
 
 // Number 40, which has no field.
-fn say_hopeless(b: Block) {
-    say_refused(40, b.place);
-    say_block(b);
-    word(b"broken: no further bytes would make the file complete\n");
+fn say_hopeless(out: &impl Print, b: Block) -> io::Result<()> {
+    say_refused(out, 40, b.place)?;
+    say_block(out, b)?;
+    word(
+        out,
+        b"broken: no further bytes would make the file complete\n",
+    )
 }
 
-pub(crate) fn say_file(why: Why) {
+pub(crate) fn say_file(out: &impl Print, why: Why) -> io::Result<()> {
     match why {
-        Why::Complete => word(b"nothing is refused: the file is complete\n"),
+        Why::Complete => word(out, b"nothing is refused: the file is complete\n"),
         Why::Open(missing) => {
             part(
+                out,
                 b"nothing is refused: the file is open, missing bytes: ",
                 missing as u64,
-            );
-            newline();
+            )?;
+            newline(out)
         }
-        Why::Broken(c) => say_cited(c),
-        Why::Hopeless(b) => say_hopeless(b),
+        Why::Broken(c) => say_cited(out, c),
+        Why::Hopeless(b) => say_hopeless(out, b),
     }
 }
 
 // ---- a gate
 
 // No field of an accepted header is below 0, and a code has no sign.
-fn say_part(name: &[u8], f: Field) {
-    word(name);
-    bare(f.found as u64);
-    word(b", bytes");
-    print_bytes(f);
-    part(b" at byte ", f.place as u64);
-    newline();
+fn say_part(out: &impl Print, name: &[u8], f: Field) -> io::Result<()> {
+    word(out, name)?;
+    bare(out, f.found as u64)?;
+    word(out, b", bytes")?;
+    print_bytes(out, f)?;
+    part(out, b" at byte ", f.place as u64)?;
+    newline(out)
 }
 
 // A value: its fraction, not reduced, and its hundredths.
-fn say_value(told: Told) {
-    bare_signed(told.difference);
-    part(b"/", told.scale as u64);
-    word(b", ");
-    print_hundredths(told.hundredths);
+fn say_value(out: &impl Print, told: Told) -> io::Result<()> {
+    bare_signed(out, told.difference)?;
+    part(out, b"/", told.scale as u64)?;
+    word(out, b", ")?;
+    print_hundredths(out, told.hundredths)
 }
 
 // The sentence for print.
-fn say_told(told: Told) {
+fn say_told(out: &impl Print, told: Told) -> io::Result<()> {
     let gate = told.gate;
     match gate {
-        Gate::BelowThreshold => word(b"no echo: code 0"),
-        Gate::RangeFolded => word(b"range folded: code 1"),
-        Gate::NotScanned => word(b"the radar did not look: code 2"),
-        Gate::Unknown => word(b"unknown: code 3"),
-        Gate::Reserved => word(b"reserved: code 4"),
-        Gate::Value(_) => say_value(told),
-        Gate::Class(code) => part(b"class ", code as u64),
+        Gate::BelowThreshold => word(out, b"no echo: code 0")?,
+        Gate::RangeFolded => word(out, b"range folded: code 1")?,
+        Gate::NotScanned => word(out, b"the radar did not look: code 2")?,
+        Gate::Unknown => word(out, b"unknown: code 3")?,
+        Gate::Reserved => word(out, b"reserved: code 4")?,
+        Gate::Value(_) => say_value(out, told)?,
+        Gate::Class(code) => part(out, b"class ", code as u64)?,
     }
-    newline();
+    newline(out)
 }
 
 // The sentence comes from the cited fields alone.
-fn say_answer(c: GateCited) {
-    say_part(b"type: ", c.data_type);
-    say_part(b"scale: ", c.scale);
-    say_part(b"offset: ", c.offset);
-    say_part(b"bin length: ", c.bin_length);
-    say_part(b"code: ", c.code);
-    say_told(citing::answers::answer(c));
+fn say_answer(out: &impl Print, c: GateCited) -> io::Result<()> {
+    say_part(out, b"type: ", c.data_type)?;
+    say_part(out, b"scale: ", c.scale)?;
+    say_part(out, b"offset: ", c.offset)?;
+    say_part(out, b"bin length: ", c.bin_length)?;
+    say_part(out, b"code: ", c.code)?;
+    say_told(out, citing::answers::answer(c))
 }
 
 // A question that is refused, and what there is instead.
-fn say_none(n: u32, words: &[u8], there: usize) {
-    say_refused(n, 0);
-    part(words, there as u64);
-    newline();
+fn say_none(out: &impl Print, n: u32, words: &[u8], there: usize) -> io::Result<()> {
+    say_refused(out, n, 0)?;
+    part(out, words, there as u64)?;
+    newline(out)
 }
 
-pub(crate) fn say_gate(why: WhyGate) {
+pub(crate) fn say_gate(out: &impl Print, why: WhyGate) -> io::Result<()> {
     match why {
-        WhyGate::Answered(c) => say_answer(c),
-        WhyGate::NoRadial(n) => say_none(30, b"no such whole radial; the file has ", n),
+        WhyGate::Answered(c) => say_answer(out, c),
+        WhyGate::NoRadial(n) => say_none(out, 30, b"no such whole radial; the file has ", n),
         WhyGate::NoMoment(place) => say_none(
+            out,
             31,
             b"no such moment in the radial, which stands at byte ",
             place,
         ),
-        WhyGate::NoGate(n) => say_none(32, b"no such gate; the moment has ", n),
+        WhyGate::NoGate(n) => say_none(out, 32, b"no such gate; the moment has ", n),
     }
 }

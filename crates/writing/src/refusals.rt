@@ -7,6 +7,7 @@ use cut::Cut;
 use index::Answer;
 use printing::{first, newline, number, refused, sum, word};
 use radial::Radial;
+use std::io;
 use walk::due::Walk;
 
 // A radial with one moment of one-byte gates.
@@ -25,238 +26,264 @@ fn opening() -> Radial {
     records::radial(narrow(3, 1, 1, 1))
 }
 
-fn try_header(label: &[u8], w: Walk, room: &mut [u8], header: Radial) {
+fn try_header(
+    out: &impl Print,
+    label: &[u8],
+    w: Walk,
+    room: &mut [u8],
+    header: Radial,
+) -> io::Result<()> {
     let before = sum(room);
     let p = writer::put_radial(w, room, header);
-    print_put(label, w, before, p, room);
+    print_put(out, label, w, before, p, room)
 }
 
 // A volume's first radial onto a state and a room as they are given.
-fn try_radial(label: &[u8], w: Walk, room: &mut [u8]) {
-    try_header(label, w, room, opening());
+fn try_radial(out: &impl Print, label: &[u8], w: Walk, room: &mut [u8]) -> io::Result<()> {
+    try_header(out, label, w, room, opening())
 }
 
-fn after_the_end() {
+fn after_the_end(out: &impl Print) -> io::Result<()> {
     let mut room = [0xa5u8; 1000];
-    let w = put_pair(&mut room, 0, 1);
-    try_radial(b"25, a radial after the end", w, &mut room);
+    let w = put_pair(out, &mut room, 0, 1)?;
+    try_radial(out, b"25, a radial after the end", w, &mut room)
 }
 
-fn another_kind() {
+fn another_kind(out: &impl Print) -> io::Result<()> {
     let mut room = [0xa5u8; 1000];
-    try_radial(b"34, a radial before all else", Walk::begin(), &mut room);
+    try_radial(
+        out,
+        b"34, a radial before all else",
+        Walk::begin(),
+        &mut room,
+    )
 }
 
-fn short_room() {
+fn short_room(out: &impl Print) -> io::Result<()> {
     let mut room = [0xa5u8; 735];
-    let w = put_front(&mut room, 0, 1);
-    try_radial(b"33, a room of 735 bytes", w, &mut room);
+    let w = put_front(out, &mut room, 0, 1)?;
+    try_radial(out, b"33, a room of 735 bytes", w, &mut room)
 }
 
 // A task onto a state and a room as they are given.
-fn try_task(label: &[u8], w: Walk, room: &mut [u8], scan_type: u32, cuts: u32) {
+fn try_task(
+    out: &impl Print,
+    label: &[u8],
+    w: Walk,
+    room: &mut [u8],
+    scan_type: u32,
+    cuts: u32,
+) -> io::Result<()> {
     let before = sum(room);
     let p = writer::put_task(w, room, records::task(scan_type, cuts));
-    print_put(label, w, before, p, room);
+    print_put(out, label, w, before, p, room)
 }
 
-fn too_many_cuts() {
+fn too_many_cuts(out: &impl Print) -> io::Result<()> {
     let mut room = [0xa5u8; 1000];
     try_task(
+        out,
         b"34 ahead of 8, 257 cuts before all else",
         Walk::begin(),
         &mut room,
         0,
         257,
-    );
-    let w = put_start(&mut room);
-    try_task(b"8, 257 cuts", w, &mut room, 0, 257);
+    )?;
+    let w = put_start(out, &mut room)?;
+    try_task(out, b"8, 257 cuts", w, &mut room, 0, 257)?;
     let mut short = [0xa5u8; 160];
-    let v = put_start(&mut short);
+    let v = put_start(out, &mut short)?;
     try_task(
+        out,
         b"8 ahead of 33, 257 cuts in a room of 160 bytes",
         v,
         &mut short,
         0,
         257,
-    );
+    )
 }
 
 // Type 2 in two layers; in type 5 of two layers, the first closed by 2, and the second opened by 0 (document 02, #103).
-fn layers() {
+fn layers(out: &impl Print) -> io::Result<()> {
     let mut room = [0xa5u8; 1500];
-    let u = put_start(&mut room);
-    try_task(b"8, type 2 in two layers", u, &mut room, 2, 2);
-    let mut w = put_front(&mut room, 5, 2);
-    w = put_cut(w, &mut room);
-    w = put_radial(w, &mut room, narrow(5, 1, 1, 1));
+    let u = put_start(out, &mut room)?;
+    try_task(out, b"8, type 2 in two layers", u, &mut room, 2, 2)?;
+    let mut w = put_front(out, &mut room, 5, 2)?;
+    w = put_cut(out, w, &mut room)?;
+    w = put_radial(out, w, &mut room, narrow(5, 1, 1, 1))?;
     let closing = records::radial(narrow(2, 2, 2, 1));
-    try_header(b"10, a layer closed by 2", w, &mut room, closing);
-    w = put_radial(w, &mut room, narrow(6, 2, 2, 1));
+    try_header(out, b"10, a layer closed by 2", w, &mut room, closing)?;
+    w = put_radial(out, w, &mut room, narrow(6, 2, 2, 1))?;
     let second = records::radial(narrow(0, 3, 1, 2));
-    try_header(b"10, a layer opened by 0", w, &mut room, second);
+    try_header(out, b"10, a layer opened by 0", w, &mut room, second)
 }
 
-fn try_cut(label: &[u8], w: Walk, room: &mut [u8], cut: Cut) {
+fn try_cut(out: &impl Print, label: &[u8], w: Walk, room: &mut [u8], cut: Cut) -> io::Result<()> {
     let before = sum(room);
     let p = writer::put_cut(w, room, cut);
-    print_put(label, w, before, p, room);
+    print_put(out, label, w, before, p, room)
 }
 
 // A cut of no type, which no radial can be in (document 02, #110), in a room that ends before it.
-fn no_type() {
+fn no_type(out: &impl Print) -> io::Result<()> {
     let mut room = [0xa5u8; 416];
     let mut cut = records::cut();
     cut.moments_mask = 0;
     try_cut(
+        out,
         b"34 ahead of 40, a cut of no type before all else",
         Walk::begin(),
         &mut room,
         cut,
-    );
-    let v = put_start(&mut room);
-    let w = put_task(v, &mut room, 0, 1);
+    )?;
+    let v = put_start(out, &mut room)?;
+    let w = put_task(out, v, &mut room, 0, 1)?;
     try_cut(
+        out,
         b"40 ahead of 33, a cut of no type in a room of 416 bytes",
         w,
         &mut room,
         cut,
-    );
+    )?;
     cut.process_mode = 0;
     try_cut(
+        out,
         b"9 ahead of 40, a cut of no type and process mode 0",
         w,
         &mut room,
         cut,
-    );
+    )
 }
 
 // More moments than the cut has types, in a room that ends before the header.
-fn no_moments() {
+fn no_moments(out: &impl Print) -> io::Result<()> {
     let mut room = [0xa5u8; 672];
-    let w = put_front(&mut room, 0, 1);
+    let w = put_front(out, &mut room, 0, 1)?;
     let mut header = opening();
     header.moment_number = 3;
     header.length_of_data = 132;
     try_header(
+        out,
         b"40 ahead of 33, three moments of two types",
         w,
         &mut room,
         header,
-    );
+    )?;
     header.spot_blank = 2;
     try_header(
+        out,
         b"11 ahead of 40, three moments of two types and spot blank 2",
         w,
         &mut room,
         header,
-    );
+    )
 }
 
 // Of twelve bytes for both types, five for the one-byte type leave seven for the two-byte one, which has an even number.
-fn odd_rest() {
+fn odd_rest(out: &impl Print) -> io::Result<()> {
     let mut room = [0xa5u8; 736];
-    let v = put_front(&mut room, 0, 1);
+    let v = put_front(out, &mut room, 0, 1)?;
     let mut both = narrow(3, 1, 1, 1);
     both.moments = 3;
-    let w = onward(writer::put_radial(v, &mut room, records::radial(both)));
+    let w = onward(out, writer::put_radial(v, &mut room, records::radial(both)))?;
     let mut header = records::moment(2, 1);
     header.length = 5;
     let before = sum(&room);
     let p = writer::put_moment(w, &mut room, header);
     print_put(
+        out,
         b"40 ahead of 33, seven bytes for a two-byte type",
         w,
         before,
         p,
         &room,
-    );
+    )
 }
 
-fn short_data() {
+fn short_data(out: &impl Print) -> io::Result<()> {
     let mut room = [0xa5u8; 1000];
-    let u = put_front(&mut room, 0, 1);
-    let v = onward(writer::put_radial(u, &mut room, opening()));
-    let w = onward(writer::put_moment(v, &mut room, records::moment(2, 1)));
+    let u = put_front(out, &mut room, 0, 1)?;
+    let v = onward(out, writer::put_radial(u, &mut room, opening()))?;
+    let w = onward(out, writer::put_moment(v, &mut room, records::moment(2, 1)))?;
     let before = sum(&room);
     let p = writer::put_data(w, &mut room, b"\x05\x06\x07");
-    print_put(b"35, three bytes of four", w, before, p, &room);
+    print_put(out, b"35, three bytes of four", w, before, p, &room)
 }
 
 // States whose count of bytes does not agree with the room.
-fn other_ends() {
+fn other_ends(out: &impl Print) -> io::Result<()> {
     let mut room = [0xa5u8; 1000];
-    let mut w = put_front(&mut room, 0, 1);
+    let mut w = put_front(out, &mut room, 0, 1)?;
     w.at = 1001;
-    try_radial(b"37, more bytes than the room has", w, &mut room);
+    try_radial(out, b"37, more bytes than the room has", w, &mut room)?;
     w.at = 600;
-    try_radial(b"37, the end is inside a block", w, &mut room);
+    try_radial(out, b"37, the end is inside a block", w, &mut room)
 }
 
 // A state and a room that do not agree on what is written.
-fn other_blocks() {
+fn other_blocks(out: &impl Print) -> io::Result<()> {
     let mut room = [0xa5u8; 1000];
-    let w = put_front(&mut room, 0, 1);
+    let w = put_front(out, &mut room, 0, 1)?;
     let mut other = w;
     other.plan.cuts = 2;
-    try_radial(b"37, another number of cuts", other, &mut room);
+    try_radial(out, b"37, another number of cuts", other, &mut room)?;
     room[0] = 0;
-    try_radial(b"37, another first byte", w, &mut room);
+    try_radial(out, b"37, another first byte", w, &mut room)?;
     room[0] = 0x52;
     room[500] = 0;
-    try_radial(b"37, a cut of no type", w, &mut room);
+    try_radial(out, b"37, a cut of no type", w, &mut room)
 }
 
-fn print_answer(answer: Answer) {
+fn print_answer(out: &impl Print, answer: Answer) -> io::Result<()> {
     match answer {
         Answer::Written(n) => {
-            word(b" written");
-            number(n as u64);
+            word(out, b" written")?;
+            number(out, n as u64)
         }
-        Answer::Refused(n) => {
-            refused(n);
-        }
+        Answer::Refused(n) => { refused(out, n) }
     }
 }
 
 // The room of an index, before and after what is refused.
-fn try_index(label: &[u8], file: &[u8], room: &mut [u8]) {
+fn try_index(out: &impl Print, label: &[u8], file: &[u8], room: &mut [u8]) -> io::Result<()> {
     let before = sum(room);
     let answer = index::write(file, room);
-    word(label);
-    word(b":");
-    print_answer(answer);
-    print_rooms(before, room);
-    newline();
+    word(out, label)?;
+    word(out, b":")?;
+    print_answer(out, answer)?;
+    print_rooms(out, before, room)?;
+    newline(out)
 }
 
-fn index_refusals() {
+fn index_refusals(out: &impl Print) -> io::Result<()> {
     let mut file = [0xa5u8; 1000];
-    let w = put_pair(&mut file, 0, 1);
+    let w = put_pair(out, &mut file, 0, 1)?;
     let mut room = [0xa5u8; 22];
     try_index(
+        out,
         b"36, an index of an open file",
         first(&file, 871),
         &mut room,
-    );
+    )?;
     try_index(
+        out,
         b"33, a room of 22 bytes for an index of 23",
         first(&file, w.at),
         &mut room,
-    );
+    )
 }
 
-pub(crate) fn run() {
-    after_the_end();
-    another_kind();
-    too_many_cuts();
-    layers();
-    no_type();
-    no_moments();
-    odd_rest();
-    short_data();
-    short_room();
-    other_ends();
-    other_blocks();
-    index_refusals();
+pub(crate) fn run(out: &impl Print) -> io::Result<()> {
+    after_the_end(out)?;
+    another_kind(out)?;
+    too_many_cuts(out)?;
+    layers(out)?;
+    no_type(out)?;
+    no_moments(out)?;
+    odd_rest(out)?;
+    short_data(out)?;
+    short_room(out)?;
+    other_ends(out)?;
+    other_blocks(out)?;
+    index_refusals(out)
 }

@@ -4,52 +4,70 @@ ghost use Rattle.std.specs.Prelude.{◌≤◌};
 use crate::records;
 use crate::records::Facts;
 use crate::telling::onward;
+use std::io;
 use walk::due::Walk;
 
 // The blocks before the task.
-pub(crate) fn put_start(room: &mut [u8]) -> Walk {
-    let w = onward(writer::put_generic(Walk::begin(), room, records::generic()));
-    onward(writer::put_site(w, room, records::site()))
+pub(crate) fn put_start(out: &impl Print, room: &mut [u8]) -> io::Result<Walk> {
+    let w = onward(
+        out,
+        writer::put_generic(Walk::begin(), room, records::generic()),
+    )?;
+    onward(out, writer::put_site(w, room, records::site()))
 }
 
-pub(crate) fn put_task(w: Walk, room: &mut [u8], scan_type: u32, cuts: u32) -> Walk {
-    onward(writer::put_task(w, room, records::task(scan_type, cuts)))
+pub(crate) fn put_task(
+    out: &impl Print,
+    w: Walk,
+    room: &mut [u8],
+    scan_type: u32,
+    cuts: u32,
+) -> io::Result<Walk> {
+    onward(
+        out,
+        writer::put_task(w, room, records::task(scan_type, cuts)),
+    )
 }
 
-pub(crate) fn put_cut(w: Walk, room: &mut [u8]) -> Walk {
-    onward(writer::put_cut(w, room, records::cut()))
+pub(crate) fn put_cut(out: &impl Print, w: Walk, room: &mut [u8]) -> io::Result<Walk> {
+    onward(out, writer::put_cut(w, room, records::cut()))
 }
 
 // The blocks up to the first cut's.
-pub(crate) fn put_front(room: &mut [u8], scan_type: u32, cuts: u32) -> Walk {
-    let w = put_start(room);
-    let v = put_task(w, room, scan_type, cuts);
-    put_cut(v, room)
+pub(crate) fn put_front(
+    out: &impl Print,
+    room: &mut [u8],
+    scan_type: u32,
+    cuts: u32,
+) -> io::Result<Walk> {
+    let w = put_start(out, room)?;
+    let v = put_task(out, w, room, scan_type, cuts)?;
+    put_cut(out, v, room)
 }
 
-fn put_narrow(w: Walk, room: &mut [u8], last: u8) -> Walk {
-    let v = onward(writer::put_moment(w, room, records::moment(2, 1)));
+fn put_narrow(out: &impl Print, w: Walk, room: &mut [u8], last: u8) -> io::Result<Walk> {
+    let v = onward(out, writer::put_moment(w, room, records::moment(2, 1)))?;
     let data = [0, 1, 66, last];
-    onward(writer::put_data(v, room, &data))
+    onward(out, writer::put_data(v, room, &data))
 }
 
-fn put_wide(w: Walk, room: &mut [u8], last: u8) -> Walk {
-    let v = onward(writer::put_moment(w, room, records::moment(4, 2)));
+fn put_wide(out: &impl Print, w: Walk, room: &mut [u8], last: u8) -> io::Result<Walk> {
+    let v = onward(out, writer::put_moment(w, room, records::moment(4, 2)))?;
     let data = [0, 0, 5, 1, 66, 0, last, 2];
-    onward(writer::put_data(v, room, &data))
+    onward(out, writer::put_data(v, room, &data))
 }
 
 // A radial, with its sequence number's lowest byte in the last gate of each of its moments.
-pub(crate) fn put_radial(w: Walk, room: &mut [u8], f: Facts) -> Walk {
-    let v = onward(writer::put_radial(w, room, records::radial(f)));
+pub(crate) fn put_radial(out: &impl Print, w: Walk, room: &mut [u8], f: Facts) -> io::Result<Walk> {
+    let v = onward(out, writer::put_radial(w, room, records::radial(f)))?;
     let moments = f.moments;
     let last = (f.sequence % 256) as u8;
     match moments {
-        1 => put_narrow(v, room, last),
-        2 => put_wide(v, room, last),
+        1 => put_narrow(out, v, room, last),
+        2 => put_wide(out, v, room, last),
         _ => {
-            let u = put_narrow(v, room, last);
-            put_wide(u, room, last)
+            let u = put_narrow(out, v, room, last)?;
+            put_wide(out, u, room, last)
         }
     }
 }
@@ -66,13 +84,14 @@ fn first_sequence(cut: u32) -> u32
 
 // The three radials of a cut, by the states of the first and the last.
 pub(crate) fn put_radials(
+    out: &impl Print,
     w: Walk,
     room: &mut [u8],
     moments: u8,
     cut: u32,
     opening: u8,
     closing: u8,
-) -> Walk {
+) -> io::Result<Walk> {
     let sequence = first_sequence(cut);
     let first = Facts {
         moments,
@@ -95,14 +114,19 @@ pub(crate) fn put_radials(
         number: 3,
         cut,
     };
-    let v = put_radial(w, room, first);
-    let u = put_radial(v, room, second);
-    put_radial(u, room, third)
+    let v = put_radial(out, w, room, first)?;
+    let u = put_radial(out, v, room, second)?;
+    put_radial(out, u, room, third)
 }
 
 // One cut of two radials.
-pub(crate) fn put_pair(room: &mut [u8], scan_type: u32, moments: u8) -> Walk {
-    let w = put_front(room, scan_type, 1);
+pub(crate) fn put_pair(
+    out: &impl Print,
+    room: &mut [u8],
+    scan_type: u32,
+    moments: u8,
+) -> io::Result<Walk> {
+    let w = put_front(out, room, scan_type, 1)?;
     let first = Facts {
         moments,
         state: 3,
@@ -117,6 +141,6 @@ pub(crate) fn put_pair(room: &mut [u8], scan_type: u32, moments: u8) -> Walk {
         number: 2,
         cut: 1,
     };
-    let v = put_radial(w, room, first);
-    put_radial(v, room, second)
+    let v = put_radial(out, w, room, first)?;
+    put_radial(out, v, room, second)
 }
