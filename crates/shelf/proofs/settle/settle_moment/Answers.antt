@@ -8,8 +8,7 @@ use Rattle.old.specs.declared.record.OldRadial.{OldRadial}
 use Rattle.old.specs.declared.codes.Quantity.{Quantity}
 use Rattle.old.specs.Headers.{gates_of, moment_from}
 use Rattle.shelf.specs.Settled.{settle_next, settle_data, settle_moment}
-use Rattle.shelf.proofs.settle.settle_moment.Statement.{statement}
-use Rattle.shelf.proofs.settle.settle_moment.Tie as tie
+use Rattle.shelf.proofs.settle.settle_moment.Goals as goal
 
 module _ (room : ℕ) (q : Quantity) (o : OldRadial) (p : Put) {n : ℕ} (gates : n ≡ gates_of q o) where
   left_out : n ≡ 0 → p ≡ settle_moment room q o p
@@ -21,18 +20,11 @@ module _ (room : ℕ) (q : Quantity) (o : OldRadial) (p : Put) {n : ℕ} (gates 
   unfolding settle_moment
   two_blocks some em ex ey = rw (ne_eqb (gates_of q o) 0 (λ e. some (gates ∙ e)), ← gates, ← em, ← ex) ey
 
-returns : tie.Need-returns
-returns c = let a = c.before.before.before.args in left_out _ a.q a.o _ c.before.gates.ensures c.if1.true
+pub returns-then-n-eq0 : goal.returns-then-n-eq0
+returns-then-n-eq0 c = let a = c.args in left_out _ a.q a.o _ c.gates-n.ensures c.if-n-eq0.true
 
-returns-2 : tie.Need-returns-2
-returns-2 c =
-    let headed = c.before.before in
-    let counted = headed.before.before in
-    let a = counted.before.before.args in
-    two_blocks _ a.q a.o a.p counted.gates.ensures headed.before.if1.false headed.moment-from.ensures
-    c.before.next-moment.ensures c.next-data.ensures
-
-pub settle-moment-spec : {M : Type 1} → statement M
-settle-moment-spec =
-    tie.close
-    (tie.spec (λ c κs. search rules) returns (λ c κs. search rules) (λ c κs. search rules) (λ c. search rules) (λ c. search rules) (λ c κs. search rules) returns-2)
+pub returns : goal.returns
+returns c =
+    let a = c.args in
+    two_blocks _ a.q a.o a.p c.gates-n.ensures c.if-n-eq0.false c.moment_from-m.ensures
+    c.next_moment.ensures c.next_data.ensures

@@ -13,8 +13,7 @@ use Rattle.reading.specs.Step.{cut_in, say_radial, say_by_masks}
 use Rattle.reading.proofs.Masks.{by-masks}
 use Rattle.writer.specs.declared.order.Put.{Put}
 use Rattle.writer.specs.Put.{settled_by}
-use Rattle.shelf.proofs.settle.settle_radial.Statement.{statement}
-use Rattle.shelf.proofs.settle.settle_radial.Tie as tie
+use Rattle.shelf.proofs.settle.settle_radial.Goals as goal
 
 module _ (a c : List ℕ) (w : Walk) (long : length a ≡ cut_place 1) where
   -- a number of the cut's record, in the volume and among the cut records
@@ -29,15 +28,8 @@ module _ (a c : List ℕ) (w : Walk) (long : length a ≡ cut_place 1) where
   in_cut r room e m z k =
       e ∙ ap (λ (s : Step). settled_by due.Radial s true radial_size w room) (rw (m ∙ behind 84 k, z ∙ behind 92 k) (by-masks (a ++ c) w r))
 
-returns : tie.Need-returns
+pub returns : goal.returns
 returns c =
-    let masks = c.before in
-    let placed = masks.before.before in
-    let a = placed.before.before.before.before.args in
-    in_cut (replicate (cut_place 1) 0) a.cuts.now a.w refl a.r _ c.radial.ensures masks.before.u64-at.ensures masks.u64-at2.ensures
-    (let e = placed.before.cut-place.ensures in let f = placed.cut-place2.ensures in omega arith)
-
-pub settle-radial-spec : {M : Type 1} → statement M
-settle-radial-spec =
-    tie.close
-    (tie.spec (λ c κs. search rules) (λ c κs. search rules) (λ c. search rules) (λ c. search rules) (λ c κs. search rules) (λ c. search rules) (λ c κs. search rules) (λ c κs. search rules) returns)
+    let a = c.args in
+    in_cut (replicate (cut_place 1) 0) a.cuts.now a.w refl a.r _ c.radial.ensures c.u64_at-mask.ensures c.u64_at-sizes.ensures
+    (let e = c.cut_place.ensures in let f = c.cut_place-2.ensures in omega arith)

@@ -14,8 +14,7 @@ use Rattle.writer.specs.Block.{site, task}
 use Rattle.writer.specs.Put.{settled_by}
 use Rattle.shelf.specs.Settled.{settle_next, settle_cuts, settle_rest, fresh, settle_head, settle_ours}
 use Rattle.shelf.proofs.Unless.{goes_on}
-use Rattle.shelf.proofs.settle.settle_ours.Statement.{statement}
-use Rattle.shelf.proofs.settle.settle_ours.Tie as tie
+use Rattle.shelf.proofs.settle.settle_ours.Goals as goal
 
 module _ (g : Generic) (s : Site) (t : Task) (c : List ℕ) (room : ℕ) {x y z : Put} where
   head : {w : Walk} → w ≡ at_start → x ≡ settled_by due.Generic (take_generic g w) true generic_size w room → y ≡ settle_next room (site s) x
@@ -27,16 +26,9 @@ module _ (g : Generic) (s : Site) (t : Task) (c : List ℕ) (room : ℕ) {x y z 
   whole : z ≡ settle_head g s t room → x ≡ settle_cuts (length c / cut_size) c room z → y ≡ settle_rest room (length c % cut_size) x → y ≡ settle_ours g s t c room
   whole ez ex ey = ey ∙ ap (settle_rest room (length c % cut_size)) (ex ∙ ap (settle_cuts (length c / cut_size) c room) ez)
 
-returns : tie.Need-returns
+pub returns : goal.returns
 returns c =
-    let tasked = c.before.before in
-    let begun = tasked.before.before in
-    let a = begun.before.before.before.before.args in
+    let a = c.args in
     whole a.g a.s a.t a.cuts.now _
-    (head a.g a.s a.t a.cuts.now _ begun.before.begin.ensures begun.generic.ensures tasked.before.next-site.ensures tasked.next-task.ensures)
-    c.before.settle-cuts.ensures c.settle-rest.ensures
-
-pub settle-ours-spec : {M : Type 1} → statement M
-settle-ours-spec =
-    tie.close
-    (tie.spec (λ c κs. search rules) (λ c κs. search rules) (λ c κs. search rules) (λ c κs. search rules) (λ c κs. search rules) (λ c κs. search rules) returns)
+    (head a.g a.s a.t a.cuts.now _ c.begin.ensures c.generic-p.ensures c.next_site-p.ensures c.next_task-p.ensures)
+    c.settle_cuts-p.ensures c.settle_rest.ensures

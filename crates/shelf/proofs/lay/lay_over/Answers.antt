@@ -14,8 +14,7 @@ use Rattle.old.specs.Old.{old_at, old_check, counts_ok}
 use Rattle.old.proofs.Accepted.{rules-hold}
 use Rattle.shelf.specs.Import.{moments_of}
 use Rattle.shelf.specs.Settled.{Lay, unless, unless_bad, settle_over, settled_over, radial_next, laid_bytes, laid_if, bytes_next, lay_over}
-use Rattle.shelf.proofs.lay.lay_over.Statement.{statement}
-use Rattle.shelf.proofs.lay.lay_over.Tie as tie
+use Rattle.shelf.proofs.lay.lay_over.Goals as goal
 
 fine : (k : Check) (at : ℕ) (before next : Put) → (unless_bad k at before next).answer ≡ Taken → k ≡ Fine
 unfolding unless_bad
@@ -53,41 +52,22 @@ module _ (c f : List ℕ) (at : ℕ) (w : Walk) (room : List ℕ) (o : OldRadial
       let r = ap (λ (a : Answer). laid_if a room (laid_bytes room w.at (bytes_next f at w))) (sym t ∙ ap (λ (x : Put). x.answer) settled) in
       λ i. record { walk = (settled i).walk; room = r i }
 
-lay-requires : tie.Need-lay-requires
-lay-requires c κs =
-    let q = c.before.before.before in
-    let r = q.before.before in
-    let s = r.before.before.before.before in
-    let a = s.args in (
-      s.requires,
-      counts a.cuts.now a.old.now a.from a.w a.room.now _ r.read.ensures _ q.settle-over.ensures
-          c.before.enum_told.given.1,
+pub lay-requires : goal.lay-requires
+lay-requires c =
+    let a = c.args in (
+      c.requires,
+      counts a.cuts.now a.old.now a.from a.w a.room.now _ c.read-o.ensures _ c.settle_over-q.ensures
+          c.in-Taken.is,
     )
 
-returns : tie.Need-returns
-returns c =
-    let t = c.before.before.before.before.before in
-    let q = t.before.before in
-    let r = q.before.before in
-    let a = r.before.before.before.before.args in
-    taken a.cuts.now a.old.now a.from a.w a.room.now _ r.read.ensures _ q.settle-over.ensures _
-    t.enum_told.given.1 c.before.before.before.lay.ensures
+pub returns-in-Taken : goal.returns-in-Taken
+returns-in-Taken c =
+    let a = c.args in
+    taken a.cuts.now a.old.now a.from a.w a.room.now _ c.read-o.ensures _ c.settle_over-q.ensures _
+    c.in-Taken.is c.lay.ensures
 
-returns-2 : tie.Need-returns-2
-returns-2 c =
-    let q = c.before.before.before in
-    let r = q.before.before in
-    let a = r.before.before.before.before.args in
-    refused a.cuts.now a.old.now a.from a.w a.room.now _ r.read.ensures _ q.settle-over.ensures _ _
-    c.before.enum-told2.given.1
-
-pub lay-over-spec : {M : Type 1} → statement M
-lay-over-spec =
-    tie.close
-    (tie.spec
-    (λ c κs. search rules) (λ c κs. search rules) (λ c. search rules)
-    lay-requires
-    (λ c. search rules) (λ c. search rules)
-    returns
-    (λ c. search rules)
-    returns-2)
+pub returns-in-Refused : goal.returns-in-Refused
+returns-in-Refused c =
+    let a = c.args in
+    refused a.cuts.now a.old.now a.from a.w a.room.now _ c.read-o.ensures _ c.settle_over-q.ensures _ _
+    c.in-Refused.is

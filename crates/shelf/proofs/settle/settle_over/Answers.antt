@@ -15,8 +15,7 @@ use Rattle.old.specs.declared.record.OldRadial.{OldRadial}
 use Rattle.old.specs.Old.{old_check}
 use Rattle.shelf.specs.Settled.{front, unless_bad, radial_next, settle_moments, settle_over}
 use Rattle.shelf.proofs.Unless.{goes_on, stays}
-use Rattle.shelf.proofs.settle.settle_over.Statement.{statement}
-use Rattle.shelf.proofs.settle.settle_over.Tie as tie
+use Rattle.shelf.proofs.settle.settle_over.Goals as goal
 
 module _ (c : List ℕ) (room : ℕ) (o : OldRadial) (at : ℕ) (p : Put) (t : p.answer ≡ Taken) {k : Check} (e : k ≡ old_check o) where
   fine : k ≡ Fine → {r : Radial} {x y : Put} → r ≡ radial_next o p.walk
@@ -31,27 +30,16 @@ module _ (c : List ℕ) (room : ℕ) (o : OldRadial) (at : ℕ) (p : Put) (t : p
   unfolding unless_bad
   broken b f ey = goes_on p t (rw (sym e ∙ f) ey)
 
-returns : tie.Need-returns
-returns c = stays _ c.enum-told2.given.1
+pub returns-in-Refused : goal.returns-in-Refused
+returns-in-Refused c = stays _ c.in-Refused.is
 
-returns-2 : tie.Need-returns-2
-returns-2 c =
-    let headed = c.before in
-    let found = headed.before.before in
-    let asked = found.before.before in
-    let a = asked.before.before.before.before.before.before.args in
-    fine a.cuts.now _ a.o a.at a.p asked.before.before.enum_told.given.1 asked.check.ensures found.enum-told3.given.1
-    headed.before.radial-next.ensures headed.settle-radial.ensures c.settle-moments.ensures
+pub returns-in-Fine : goal.returns-in-Fine
+returns-in-Fine c =
+    let a = c.args in
+    fine a.cuts.now _ a.o a.at a.p c.in-Taken.is c.check.ensures c.in-Fine.is
+    c.radial_next.ensures c.settle_radial-q.ensures c.settle_moments.ensures
 
-returns-3 : tie.Need-returns-3
-returns-3 c =
-    let found = c.before.before in
-    let asked = found.before.before in
-    let a = asked.before.before.before.before.before.before.args in
-    broken a.cuts.now _ a.o a.at a.p asked.before.before.enum_told.given.1 asked.check.ensures _ found.c.given.1 c.refused.ensures
-
-pub settle-over-spec : {M : Type 1} → statement M
-settle-over-spec =
-    tie.close
-    (tie.spec (λ c. search rules) (λ c. search rules) returns (λ c κs. search rules) (λ c. search rules) (λ c κs. search rules) (λ c κs. search rules)
-    (λ c κs. search rules) (λ c. search rules) (λ c κs. search rules) returns-2 returns-3)
+pub returns-in-Broken : goal.returns-in-Broken
+returns-in-Broken c =
+    let a = c.args in
+    broken a.cuts.now _ a.o a.at a.p c.in-Taken.is c.check.ensures _ c.in-Broken.is c.refused.ensures

@@ -1,0 +1,12 @@
+-- `settle_rest` meets its promise: nothing to settle where no byte is left, else data of so many bytes. Assumes nothing.
+use Rattle.std.proofs.Common.{rules, eq-eqb, ne_eqb}
+use Rattle.shelf.specs.Settled.{settle_rest}
+use Rattle.shelf.proofs.settle.settle_rest.Goals as goal
+
+pub returns-then-size-eq0 : goal.returns-then-size-eq0
+unfolding settle_rest
+returns-then-size-eq0 c = rw (eq-eqb _ 0 c.if-size-eq0.true)
+
+pub returns : goal.returns
+unfolding settle_rest
+returns c = rw (ne_eqb _ 0 c.if-size-eq0.false) c.next_data.ensures
