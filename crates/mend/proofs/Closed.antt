@@ -150,10 +150,10 @@ module _ (b : Begun) (r : VolumeRadial) (last : Last b r) where
       let ok = last.radial in
       let small = closing-small scan k k in
       record {
-        fits = fits_kept r.header _ (omega arith) ok.fits;
-        rules = ((other-allowed scan k k (length b.now) _ last.two).1 (inr refl), ok.rules.1);
+        fits = fits_kept r.header (closing scan k k) (omega arith) ok.fits;
+        rules = ((other-allowed scan k k (length b.now) (closing scan k k) last.two).1 (inr refl), ok.rules.1);
         count = ok.count;
-        moments = moments-kept b.cut r.header _ [] r.moments ok.moments;
+        moments = moments-kept b.cut r.header (closing scan k k) [] r.moments ok.moments;
       }
 
   headed : Headed (closed_volume b r)
