@@ -1,6 +1,6 @@
 -- The table of states holds of the definitions, line by line, and so of every volume and of what is accepted of any file.
 -- Assumes nothing.
-use mathlib.Core.Path.{◌≡◌, refl, sym, ◌∙◌}
+use mathlib.Core.Path.{subst, ◌≡◌, refl, sym, ◌∙◌}
 use mathlib.Core.Bool.{Bool, true, false, cond}
 use mathlib.Core.List.{List, [], ◌∷◌}
 use mathlib.Core.Logic.{◌⊎◌, inl, inr, ⊎_elim, dite}
@@ -113,7 +113,7 @@ module _ (t : Task) (l : Line) (line : Says t.scan_type l) (some : t.cut_number 
   in_order c k before (b ∷ []) of ok = absurd (let two = sense.two t c k before (b ∷ []) ok in omega arith)
   in_order c k before (b ∷ (n ∷ ns)) of ok = (
     (line.first t.cut_number k b.header.state of).0 ok.0.rules.0,
-    rw (line.closes t.cut_number k of) at (to-the-last t c k (suc before) 1 (n ∷ ns) (omega arith) ok.2),
+    subst (λ (x : ℕ). ToTheLast x (n ∷ ns)) (line.closes t.cut_number k of) (to-the-last t c k (suc before) 1 (n ∷ ns) (omega arith) ok.2),
   )
 
   unclosed : (c : Cut) (k before : ℕ) (bs : List VolumeRadial) → CutOf l t.cut_number k → UnclosedOk t c k before 0 bs
