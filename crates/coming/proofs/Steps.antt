@@ -21,7 +21,7 @@ use Rattle.rules.specs.Masks.{bit, with_bit, type_ok, type_clauses, bin_length_o
 use Rattle.rules.specs.Tiling.{tiles, length_ok, length_clauses}
 use Rattle.rules.proofs.Numbers.{by_bits, in-range, exactly, bin-by-size}
 use Rattle.coming.specs.Moments.{Comes, fills, moments_can, singles, doubles}
-use Rattle.coming.proofs.Counts.{count, count-find, digit, ones-count}
+use Rattle.coming.proofs.Counts.{count-find, digit, ones-count}
 use Rattle.coming.proofs.Filling.{fits-of}
 use Rattle.coming.proofs.Choices.{fills-is, can-back, can-on, bit-range, at_place}
 

@@ -1,6 +1,6 @@
 -- What records of one kind have in common: bytes of a fixed size, from which the record can be had again, and which the
 -- record gives again. What stands at a place of a file, and when two records are the same. Assumes nothing.
-use Prim.Native.Nat.{ℕ, ◌+◌, ◌-◌, ◌≤◌}
+use Prim.Native.Nat.{ℕ, ◌+◌, ◌≤◌}
 use native.Mathlib.Omega.{arith}
 use mathlib.Core.Path.{◌≡◌, sym, ap, ◌∙◌}
 use mathlib.Core.List.{List, ◌++◌}

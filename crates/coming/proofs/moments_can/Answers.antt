@@ -1,6 +1,5 @@
 use Prim.Native.Nat.{◌*◌}
 use native.Mathlib.Omega.{arith}
-use borrow.Author.Rules.{rules}
 use borrow.Author.Tests.{le-leb, lt-leb}
 use Rattle.coming.specs.Moments.{moments_can}
 use Rattle.coming.proofs.moments_can.Goals as goal

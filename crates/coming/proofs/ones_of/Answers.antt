@@ -1,5 +1,4 @@
 use native.Mathlib.Omega.{arith}
-use borrow.Author.Rules.{rules}
 use lib.Count.{ones-le}
 use Rattle.coming.proofs.ones_of.Goals as goal
 

@@ -1,5 +1,4 @@
 use native.Mathlib.Omega.{arith}
-use borrow.Author.Rules.{rules}
 use Rattle.coming.proofs.Radials.{too_many, closing, going, full}
 use Rattle.coming.proofs.radials_can_after.Goals as goal
 

@@ -1,6 +1,5 @@
 use mathlib.Core.Path.{refl}
 use native.Mathlib.Omega.{arith}
-use borrow.Author.Rules.{rules}
 use Rattle.le.proofs.byte_here.Goals as goal
 
 pub overflow_cast-result : goal.overflow_cast-result

@@ -1,9 +1,9 @@
 -- The loop's invariant: the first i bytes are those past the end of a list. Assumes nothing.
 use mathlib.Core.Path.{◌≡◌, refl, ◌∙◌}
-use mathlib.Core.List.{[], ◌++◌, append-nil}
-use Prim.Native.Nat.{◌-◌, ◌≤◌, zero-le}
+use mathlib.Core.List.{[], append-nil}
+use Prim.Native.Nat.{zero-le}
 use native.Mathlib.Omega.{arith}
-use lib.ListN.{length, drop, length-set}
+use lib.ListN.{length, length-set}
 use lib.Seq.{drop-length}
 use Rattle.le.specs.Le.{part}
 use Rattle.le.proofs.Laws.{part-turn}

@@ -1,12 +1,9 @@
 -- The loop's invariant: the first i bytes are those past the end of a list. Assumes nothing.
-use mathlib.Core.Path.{◌≡◌, refl, ◌∙◌}
-use mathlib.Core.List.{[], ◌++◌, append-nil}
-use Prim.Native.Nat.{◌-◌, ◌≤◌, zero-le}
-use native.Mathlib.Omega.{arith}
-use lib.ListN.{length, drop, length-set}
-use lib.Seq.{drop-length}
+use mathlib.Core.Path.{◌≡◌}
+use mathlib.Core.List.{[], ◌++◌}
+use Prim.Native.Nat.{◌-◌, ◌≤◌}
+use lib.ListN.{length, drop}
 use Rattle.le.specs.Le.{part}
-use Rattle.le.proofs.Laws.{part-turn}
 use Rattle.le.proofs.clear.Given as goal
 
 abbrev pub invariant-loop-i : goal.invariant-loop-i

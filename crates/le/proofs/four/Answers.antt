@@ -1,6 +1,5 @@
 use native.Mathlib.Omega.{arith}
 use native.Mathlib.Nat.{add_assoc}
-use borrow.Author.Rules.{rules}
 use Rattle.le.specs.Le.{le}
 use Rattle.le.proofs.four.Goals as goal
 

@@ -1,7 +1,6 @@
 use mathlib.Core.Path.{◌≡◌, ◌∙◌}
 use mathlib.Core.List.{◌++◌}
 use Prim.Native.Nat.{◌/◌, ◌%◌, ◌^◌}
-use borrow.Author.Rules.{rules}
 use native.Mathlib.Omega.{arith}
 use Rattle.le.specs.Le.{bytes}
 use Rattle.le.proofs.Laws.{patch-join, length-bytes, bytes_cut, bytes_low}

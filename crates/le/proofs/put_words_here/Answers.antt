@@ -1,10 +1,10 @@
 -- The loop's invariant: the first i words stand in `room` at `at`. Assumes nothing.
 use mathlib.Core.Path.{◌≡◌, refl, ◌∙◌}
-use Prim.Native.Nat.{◌-◌, ◌≤◌, zero-le}
+use Prim.Native.Nat.{zero-le}
 use native.Mathlib.Omega.{arith}
-use lib.ListN.{length, take}
+use lib.ListN.{length}
 use lib.Seq.{take-length}
-use Rattle.le.specs.Le.{patch, bytes, run}
+use Rattle.le.specs.Le.{bytes}
 use Rattle.le.proofs.Laws.{length-bytes, run_none, run-turn}
 use Rattle.le.proofs.put_words_here.Goals as goal
 

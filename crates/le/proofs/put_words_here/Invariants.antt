@@ -1,11 +1,8 @@
 -- The loop's invariant: the first i words stand in `room` at `at`. Assumes nothing.
-use mathlib.Core.Path.{◌≡◌, refl, ◌∙◌}
-use Prim.Native.Nat.{◌-◌, ◌≤◌, zero-le}
-use native.Mathlib.Omega.{arith}
+use mathlib.Core.Path.{◌≡◌}
+use Prim.Native.Nat.{◌-◌, ◌≤◌}
 use lib.ListN.{length, take}
-use lib.Seq.{take-length}
 use Rattle.le.specs.Le.{patch, bytes, run}
-use Rattle.le.proofs.Laws.{length-bytes, run_none, run-turn}
 use Rattle.le.proofs.put_words_here.Given as goal
 
 abbrev pub invariant-loop-i : goal.invariant-loop-i

@@ -1,6 +1,5 @@
 use mathlib.Core.Path.{sym}
 use native.Mathlib.Omega.{arith}
-use borrow.Author.Rules.{rules}
 use Rattle.le.specs.Le.{le}
 use Rattle.le.proofs.Laws.{le-beyond}
 use Rattle.le.proofs.u16_at.Goals as goal

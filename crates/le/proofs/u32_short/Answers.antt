@@ -1,7 +1,6 @@
 use mathlib.Core.Path.{sym}
 use native.Mathlib.Omega.{arith}
 use native.Mathlib.Nat.{add_assoc}
-use borrow.Author.Rules.{rules}
 use Rattle.le.specs.Le.{le}
 use Rattle.le.proofs.Laws.{le-beyond}
 use Rattle.le.proofs.u32_short.Goals as goal

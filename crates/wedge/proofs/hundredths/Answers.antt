@@ -2,7 +2,6 @@ use mathlib.Core.Logic.{◌⊎◌, inl, inr}
 use mathlib.Core.Path.{◌≡◌}
 use Prim.Native.Nat.{ℕ, ◌≤◌}
 use native.Mathlib.Omega.{arith}
-use borrow.Author.Rules.{rules}
 use lib.Ieee.{binary32, of_bits}
 use Rattle.wedge.specs.Wedge.{Whole, turned}
 use Rattle.wedge.proofs.Exact.{low, middle, at-full, minus-zero, azimuths}

@@ -1,4 +1,3 @@
-use borrow.Author.Rules.{rules}
 use Rattle.cut.specs.Cut.{cut_check}
 use Rattle.cut.proofs.Cut.check.Goals as goal
 

@@ -1,5 +1,4 @@
 -- Each field is what its call ensures. Assumes nothing.
-use borrow.Author.Rules.{rules}
 use Rattle.cut.specs.Cut.{cut_of}
 use Rattle.cut.proofs.Cut.decode.Goals as goal
 

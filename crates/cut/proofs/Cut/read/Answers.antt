@@ -1,4 +1,3 @@
-use borrow.Author.Rules.{rules}
 use mathlib.Core.Path.{ap, ◌∙◌}
 use Rattle.cut.specs.Cut.{cut_of, cut_at}
 use Rattle.cut.proofs.Cut.read.Goals as goal

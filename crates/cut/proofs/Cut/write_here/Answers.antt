@@ -1,6 +1,5 @@
 -- Each call lays the next run behind those that stand already. Assumes nothing.
 use mathlib.Core.List.{[], ◌∷◌}
-use borrow.Author.Rules.{rules}
 use Prim.Native.Nat.{◌+◌, ◌^◌, ◌<◌}
 use native.Mathlib.Omega.{arith}
 use Rattle.le.specs.Le.{bytes, run}

@@ -1,4 +1,3 @@
-use borrow.Author.Rules.{rules}
 use Rattle.rules.specs.Check.{also}
 use Rattle.rules.proofs.check.also.Goals as goal
 

@@ -1,4 +1,3 @@
-use borrow.Author.Rules.{rules}
 use borrow.Author.Tests.{eq-eqb, ne_eqb}
 use Rattle.rules.specs.Check.{also}
 use Rattle.rules.proofs.check.also_clauses.Goals as goal

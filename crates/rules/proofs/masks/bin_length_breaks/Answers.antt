@@ -1,4 +1,3 @@
-use borrow.Author.Rules.{rules}
 use lib.Dec.{lit<}
 use mir.Syntax.{w16}
 use borrow.Author.Tests.{ne_eqb}

@@ -1,4 +1,3 @@
-use borrow.Author.Rules.{rules}
 use Rattle.rules.specs.Masks.{bit}
 use Rattle.rules.proofs.Numbers.{in-range, under, over}
 use Rattle.rules.proofs.masks.bit.Goals as goal

@@ -1,4 +1,3 @@
-use borrow.Author.Rules.{rules}
 use Rattle.rules.specs.Masks.{type_clauses}
 use Rattle.rules.proofs.masks.type_breaks.Goals as goal
 

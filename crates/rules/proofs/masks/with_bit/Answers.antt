@@ -1,6 +1,5 @@
 use Prim.Native.Nat.{◌-◌}
 use native.Mathlib.Omega.{arith}
-use borrow.Author.Rules.{rules}
 use Rattle.rules.specs.Masks.{with_bit}
 use Rattle.rules.proofs.Numbers.{in-range, under, over, one_bit}
 use Rattle.rules.proofs.masks.with_bit.Goals as goal

@@ -1,4 +1,3 @@
-use borrow.Author.Rules.{rules}
 use Rattle.rules.specs.Tiling.{length_clauses}
 use Rattle.rules.proofs.tiling.length_breaks.Goals as goal
 

@@ -1,4 +1,3 @@
-use borrow.Author.Rules.{rules}
 use lib.Dec.{lit<}
 use mir.Syntax.{w32}
 use borrow.Author.Tests.{le-leb, lt-leb}

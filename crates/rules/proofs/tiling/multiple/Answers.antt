@@ -1,5 +1,4 @@
 use native.Mathlib.Nat.{mod-zero, mod-one}
-use borrow.Author.Rules.{rules}
 use Rattle.rules.proofs.tiling.multiple.Goals as goal
 
 pub returns-in-0 : goal.returns-in-0

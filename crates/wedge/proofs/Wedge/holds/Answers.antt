@@ -1,5 +1,4 @@
 use mathlib.Core.Path.{sym, ◌∙◌}
-use borrow.Author.Rules.{rules}
 use lib.Ieee.{binary32, of_bits}
 use Rattle.rules.proofs.Four.{azimuth}
 use Rattle.wedge.specs.Wedge.{turned, in_wedge}
