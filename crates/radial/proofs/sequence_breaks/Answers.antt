@@ -1,6 +1,5 @@
 use mathlib.Core.Path.{sym}
 use native.Mathlib.Omega.{arith}
-use borrow.Author.Rules.{rules}
 use lib.Dec.{lit<}
 use Rattle.rules.specs.Ranges.{most_sequence}
 use Rattle.rules.proofs.Numbers.{right-count, far-count, wrong-count}

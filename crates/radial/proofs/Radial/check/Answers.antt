@@ -1,5 +1,4 @@
 use native.Mathlib.Omega.{arith}
-use borrow.Author.Rules.{rules}
 use Rattle.rules.proofs.Four.{azimuth, elevation}
 use Rattle.radial.specs.Radial.{radial_check}
 use Rattle.radial.proofs.Radial.check.Goals as goal

@@ -1,5 +1,4 @@
 -- Each field is what its call ensures. Assumes nothing.
-use borrow.Author.Rules.{rules}
 use Rattle.radial.specs.Radial.{radial_of}
 use Rattle.radial.proofs.Radial.decode.Goals as goal
 

@@ -1,4 +1,3 @@
-use borrow.Author.Rules.{rules}
 use mathlib.Core.Path.{ap, ◌∙◌}
 use Rattle.radial.specs.Radial.{radial_of, radial_at}
 use Rattle.radial.proofs.Radial.read.Goals as goal

@@ -1,5 +1,4 @@
 use native.Mathlib.Omega.{arith}
-use borrow.Author.Rules.{rules}
 use Rattle.rules.proofs.Four.{latitude, longitude}
 use Rattle.site.specs.Site.{site_check}
 use Rattle.site.proofs.Site.check.Goals as goal

@@ -1,5 +1,4 @@
 -- Each field is what its call ensures. Assumes nothing.
-use borrow.Author.Rules.{rules}
 use Rattle.site.specs.Site.{site_of}
 use Rattle.site.proofs.Site.decode.Goals as goal
 

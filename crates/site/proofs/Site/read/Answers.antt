@@ -1,4 +1,3 @@
-use borrow.Author.Rules.{rules}
 use mathlib.Core.Path.{ap, ◌∙◌}
 use Rattle.site.specs.Site.{site_of, site_at}
 use Rattle.site.proofs.Site.read.Goals as goal

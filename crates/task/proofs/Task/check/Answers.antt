@@ -1,4 +1,3 @@
-use borrow.Author.Rules.{rules}
 use Rattle.task.specs.Task.{task_check}
 use Rattle.task.proofs.Task.check.Goals as goal
 

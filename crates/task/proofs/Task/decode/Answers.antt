@@ -1,5 +1,4 @@
 -- Each field is what its call ensures. Assumes nothing.
-use borrow.Author.Rules.{rules}
 use Rattle.task.specs.Task.{task_of}
 use Rattle.task.proofs.Task.decode.Goals as goal
 

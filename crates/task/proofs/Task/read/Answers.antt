@@ -1,4 +1,3 @@
-use borrow.Author.Rules.{rules}
 use mathlib.Core.Path.{ap, ◌∙◌}
 use Rattle.task.specs.Task.{task_of, task_at}
 use Rattle.task.proofs.Task.read.Goals as goal
