@@ -1,4 +1,3 @@
-use borrow.Author.Rules.{rules}
 use Rattle.citing.proofs.four.Goals as goal
 
 pub returns : goal.returns

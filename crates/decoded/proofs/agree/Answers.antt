@@ -2,11 +2,10 @@
 use mir.Syntax.{w32}
 use mathlib.Core.Bool.{◌&&◌}
 use mathlib.Core.Path.{◌≡◌, sym, ap₂, ◌∙◌}
-use Prim.Native.Nat.{ℕ, ◌-◌, ◌≤◌, ◌<◌}
+use Prim.Native.Nat.{ℕ, ◌-◌}
 use native.Mathlib.Omega.{arith}
 use borrow.Author.Count.{below_none, below_more}
-use borrow.Author.Rules.{rules, sfits_of}
-use borrow.Author.Tests.{not-true, not-false}
+use borrow.Author.Rules.{sfits_of}
 use lib.Dec.{eqb}
 use lib.IntN.{ℤ}
 use lib.ListN.{get_or}
@@ -15,7 +14,7 @@ use Rattle.gates.specs.Codes.{codes_of}
 use Rattle.gates.specs.Gates.{kind_of}
 use Rattle.gates.specs.Rows.{shown_of}
 use Rattle.decoded.specs.Decoded.{eqℤ}
-use Rattle.decoded.proofs.Agreed.{Alike, shows, shows-yes, shows-no, first}
+use Rattle.decoded.proofs.Agreed.{shows, shows-yes, shows-no, first}
 use Rattle.decoded.proofs.agree.Goals as goal
 
 pub loop-i-init : goal.loop-i-init

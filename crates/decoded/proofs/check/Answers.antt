@@ -1,4 +1,3 @@
-use borrow.Author.Rules.{rules}
 use Rattle.decoded.specs.Decoded.{check_told}
 use Rattle.decoded.proofs.check.Goals as goal
 

@@ -1,6 +1,5 @@
 use mathlib.Core.Path.{◌≡◌, sym, ap, ◌∙◌}
 use native.Mathlib.Omega.{arith}
-use borrow.Author.Rules.{rules}
 use Rattle.gates.specs.Codes.{codes_of}
 use Rattle.gates.specs.Telling.{Telling, answered}
 use Rattle.decoded.specs.Decoded.{Checked, differs, checked}

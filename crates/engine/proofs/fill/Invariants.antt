@@ -1,14 +1,7 @@
 -- The loop's invariant: the first i places of either buffer are filled. Assumes nothing.
-use Prim.Native.Nat.{◌-◌, ◌%◌, ◌≤◌}
-use native.Mathlib.Omega.{arith}
-use mathlib.Core.Path.{sym, ap, ◌∙◌}
-use borrow.Author.Rules.{rules, sfits_of}
-use mir.Facts.{to_z-of_z}
-use Rattle.gates.specs.Gates.{Values}
-use Rattle.gates.specs.Telling.{Telling}
-use Rattle.engine.specs.Engine.{asked, kind_shown, hundredths_shown, kind_for, hundredths_for}
-use Rattle.engine.proofs.Filling.{Begun, begun-none, begun-turn, begun_all, kind_fits}
-use Rattle.engine.proofs.Listed.{many-asked, at-asked}
+use Prim.Native.Nat.{◌-◌, ◌≤◌}
+use Rattle.engine.specs.Engine.{asked}
+use Rattle.engine.proofs.Filling.{Begun}
 use Rattle.engine.proofs.fill.Given as goal
 
 abbrev pub invariant-loop-i : goal.invariant-loop-i

@@ -1,6 +1,5 @@
 use native.Mathlib.Omega.{arith}
 use mathlib.Core.Path.{sym, ap, ◌∙◌}
-use borrow.Author.Rules.{rules}
 use Rattle.le.specs.Le.{Bytes}
 use Rattle.radial.specs.declared.Radial.{Radial}
 use Rattle.engine.proofs.Led.{LedTo, led, led-nowhere}

@@ -1,4 +1,3 @@
-use borrow.Author.Rules.{rules}
 use Rattle.ask.specs.Answers.{gate_told}
 use Rattle.ask.specs.Places.{in_found}
 use Rattle.engine.proofs.gate.Goals as goal

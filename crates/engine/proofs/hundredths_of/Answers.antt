@@ -1,5 +1,5 @@
 use mir.Syntax.{w32}
-use borrow.Author.Rules.{rules, sfits_of}
+use borrow.Author.Rules.{sfits_of}
 use mir.Facts.{to_z-of_z}
 use Rattle.engine.specs.Engine.{hundredths_shown}
 use Rattle.engine.proofs.hundredths_of.Goals as goal

@@ -1,7 +1,6 @@
 use mathlib.Core.Path.{sym}
 use native.Mathlib.Nat.{mod-eq_of_lt}
 use native.Mathlib.Omega.{arith}
-use borrow.Author.Rules.{rules}
 use Rattle.gates.proofs.Gates.{kind-lt}
 use Rattle.engine.specs.Engine.{kind_shown}
 use Rattle.engine.proofs.kind.Goals as goal

@@ -1,7 +1,6 @@
 -- Two tests, so that no sum overflows: the bytes before the places, then by division how many places fit behind them. The
 -- index has no more bytes than there are exactly where both pass. Assumes nothing.
 use native.Mathlib.Omega.{arith}
-use borrow.Author.Rules.{rules}
 use borrow.Author.Tests.{le-leb, lt-leb}
 use Rattle.index.specs.Making.{size_for, layout_for}
 use Rattle.index.proofs.Starts.{length-start}

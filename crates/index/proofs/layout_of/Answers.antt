@@ -2,7 +2,6 @@
 use Prim.Native.Nat.{ℕ}
 use mathlib.Core.List.{[], ◌∷◌}
 use mathlib.Core.Path.{◌≡◌, sym, ap, ap₂, ◌∙◌}
-use borrow.Author.Rules.{rules}
 use Rattle.reading.specs.Reading.{verdict_told, told}
 use Rattle.index.specs.Answer.{same, complete}
 use Rattle.index.specs.Making.{layout_for, layout_of}

@@ -1,6 +1,5 @@
 -- The record by cases of the answer: each arm of the `match` is the same arm of the definition. Assumes nothing.
 use mathlib.Core.Path.{sym, ap, ◌∙◌}
-use borrow.Author.Rules.{rules}
 use Rattle.ask.specs.Tallies.{told_tally}
 use Rattle.lent.specs.Lending.{lent_of}
 use Rattle.lent.proofs.tally_told.Goals as goal

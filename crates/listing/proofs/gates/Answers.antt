@@ -1,5 +1,4 @@
 use mathlib.Core.Path.{sym}
-use borrow.Author.Rules.{rules}
 use native.Mathlib.Nat.{div-zero}
 use Rattle.listing.proofs.gates.Goals as goal
 

@@ -1,4 +1,3 @@
-use borrow.Author.Rules.{rules}
 use Rattle.listing.proofs.moment_line.Goals as goal
 
 pub returns : goal.returns

@@ -2,7 +2,6 @@
 use mathlib.Core.Path.{◌≡◌, sym, ap, ◌∙◌}
 use Prim.Native.Nat.{◌+◌}
 use native.Mathlib.Omega.{arith}
-use borrow.Author.Rules.{rules}
 use Rattle.moments.specs.Moments.{ahead_of}
 use Rattle.moments.proofs.Laws.{there}
 use Rattle.reading.specs.Reading.{bytes_of}

@@ -1,5 +1,4 @@
 use mathlib.Core.Path.{sym, ap, ◌∙◌}
-use borrow.Author.Rules.{rules}
 use Rattle.listing.specs.Listing.{radial_or}
 use Rattle.listing.proofs.next_radial.Goals as goal
 

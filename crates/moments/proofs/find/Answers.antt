@@ -1,8 +1,7 @@
 -- What is sought among all moments is sought among those still to come. Assumes nothing.
-use mathlib.Core.Path.{◌≡◌, sym, ◌∙◌}
-use borrow.Author.Rules.{rules}
+use mathlib.Core.Path.{sym, ◌∙◌}
 use borrow.Author.Tests.{eq-eqb, ne_eqb}
-use Rattle.moments.specs.Moments.{find_in, moments_of, moments_at}
+use Rattle.moments.specs.Moments.{find_in}
 use Rattle.moments.proofs.Laws.{Goes, there, end}
 use Rattle.moments.proofs.find.Goals as goal
 

@@ -1,9 +1,6 @@
 -- What is sought among all moments is sought among those still to come. Assumes nothing.
-use mathlib.Core.Path.{◌≡◌, sym, ◌∙◌}
-use borrow.Author.Rules.{rules}
-use borrow.Author.Tests.{eq-eqb, ne_eqb}
+use mathlib.Core.Path.{◌≡◌}
 use Rattle.moments.specs.Moments.{find_in, moments_of, moments_at}
-use Rattle.moments.proofs.Laws.{Goes, there, end}
 use Rattle.moments.proofs.find.Given as goal
 
 abbrev pub invariant-loop-at : goal.invariant-loop-at

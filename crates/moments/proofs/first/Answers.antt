@@ -1,4 +1,3 @@
-use borrow.Author.Rules.{rules}
 use Rattle.moments.proofs.Laws.{number_is}
 use Rattle.moments.proofs.first.Goals as goal
 

@@ -1,5 +1,4 @@
 use mathlib.Core.Path.{sym, ◌∙◌}
-use borrow.Author.Rules.{rules}
 use Rattle.moments.proofs.Laws.{length-is}
 use Rattle.moments.proofs.length_at.Goals as goal
 

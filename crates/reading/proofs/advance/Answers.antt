@@ -1,5 +1,4 @@
 use mathlib.Core.Path.{sym}
-use borrow.Author.Rules.{rules}
 use Rattle.reading.proofs.Run.{astray}
 use Rattle.reading.proofs.Loops.{advance-stops}
 use Rattle.reading.proofs.advance.Goals as goal

@@ -1,14 +1,9 @@
 -- The loop's walks lead to the same whole radial, or stop. Assumes nothing.
-use mathlib.Core.Path.{◌≡◌, refl, sym, subst⁻¹, ◌∙◌}
-use mathlib.Core.Bool.{true, false}
+use mathlib.Core.Path.{◌≡◌}
 use Prim.Native.Nat.{◌≤◌}
-use borrow.Author.Rules.{rules}
 use lib.ListN.{length}
-use Rattle.reading.specs.declared.step.Step.TheVariants.{Took}
-use Rattle.reading.specs.Step.{step_of}
-use Rattle.reading.specs.Reading.{advance_if, advance_of}
-use Rattle.reading.proofs.Run.{left, taken, Stays}
-use Rattle.reading.proofs.Loops.{advance-step, advance-stops}
+use Rattle.reading.specs.Reading.{advance_of}
+use Rattle.reading.proofs.Run.{left}
 use Rattle.reading.proofs.by_steps.Given as goal
 
 abbrev pub invariant-loop-n : goal.invariant-loop-n

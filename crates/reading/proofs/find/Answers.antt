@@ -2,9 +2,7 @@
 use mathlib.Core.Path.{◌≡◌, sym, ap, ◌∙◌}
 use Prim.Native.Nat.{suc, ◌-◌}
 use native.Mathlib.Omega.{arith}
-use borrow.Author.Rules.{rules}
-use Rattle.reading.specs.Reading.{stretches, trace, fuel, nth}
-use Rattle.reading.proofs.Run.{left}
+use Rattle.reading.specs.Reading.{stretches, nth}
 use Rattle.reading.proofs.Loops.{Further, further, no_more, found_first, found-later, found_none, found-zero}
 use Rattle.reading.proofs.find.Goals as goal
 

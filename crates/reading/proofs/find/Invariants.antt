@@ -1,11 +1,8 @@
 -- The loop's walk has passed as many whole radials as `before` has come down. Assumes nothing.
-use mathlib.Core.Path.{◌≡◌, sym, ap, ◌∙◌}
+use mathlib.Core.Path.{◌≡◌}
 use Prim.Native.Nat.{suc, ◌-◌}
-use native.Mathlib.Omega.{arith}
-use borrow.Author.Rules.{rules}
 use Rattle.reading.specs.Reading.{stretches, trace, fuel, nth}
 use Rattle.reading.proofs.Run.{left}
-use Rattle.reading.proofs.Loops.{Further, further, no_more, found_first, found-later, found_none, found-zero}
 use Rattle.reading.proofs.find.Given as goal
 
 abbrev pub invariant-loop-stretch : goal.invariant-loop-stretch

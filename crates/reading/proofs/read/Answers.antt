@@ -1,12 +1,7 @@
 -- The loop's walks are those of the reading. Assumes nothing.
 use mathlib.Core.Path.{◌≡◌, refl, sym, ◌∙◌}
-use mathlib.Core.Logic.{⊎_elim}
-use Prim.Native.Nat.{◌≤◌}
 use native.Mathlib.Omega.{arith}
-use borrow.Author.Rules.{rules}
-use lib.ListN.{length}
-use Rattle.reading.specs.Reading.{stop, last, fuel, advance_of}
-use Rattle.reading.proofs.Run.{left}
+use Rattle.reading.specs.Reading.{stop, advance_of}
 use Rattle.reading.proofs.Loops.{Further, further}
 use Rattle.reading.proofs.read.Goals as goal
 use Rattle.reading.proofs.read.Goals.{in-Radial, in_default}

@@ -1,13 +1,9 @@
 -- The loop's walks are those of the reading. Assumes nothing.
-use mathlib.Core.Path.{◌≡◌, refl, sym, ◌∙◌}
-use mathlib.Core.Logic.{⊎_elim}
+use mathlib.Core.Path.{◌≡◌}
 use Prim.Native.Nat.{◌≤◌}
-use native.Mathlib.Omega.{arith}
-use borrow.Author.Rules.{rules}
 use lib.ListN.{length}
-use Rattle.reading.specs.Reading.{stop, last, fuel, advance_of}
+use Rattle.reading.specs.Reading.{stop, last, fuel}
 use Rattle.reading.proofs.Run.{left}
-use Rattle.reading.proofs.Loops.{Further, further}
 use Rattle.reading.proofs.read.Given as goal
 
 abbrev pub invariant-loop-next : goal.invariant-loop-next

@@ -1,4 +1,3 @@
-use borrow.Author.Rules.{rules}
 use Rattle.writer.specs.Block.{«data»}
 use Rattle.writer.proofs.Putting.{puts-agreed, puts-astray}
 use Rattle.writer.proofs.put_data.Goals as goal

@@ -1,4 +1,3 @@
-use borrow.Author.Rules.{rules}
 use Rattle.writer.specs.Block.{site}
 use Rattle.writer.proofs.Putting.{puts-agreed, puts-astray}
 use Rattle.writer.proofs.put_site.Goals as goal

@@ -1,8 +1,6 @@
 -- The loop's walks are those of the reading. Assumes nothing.
-use mathlib.Core.Path.{◌≡◌, sym, ◌∙◌}
-use borrow.Author.Rules.{rules}
-use Rattle.reading.specs.Reading.{stop, last, fuel}
-use Rattle.reading.proofs.Run.{left}
+use mathlib.Core.Path.{sym, ◌∙◌}
+use Rattle.reading.specs.Reading.{stop}
 use Rattle.reading.proofs.Loops.{further, stopped}
 use Rattle.writer.proofs.state_of.Goals as goal
 

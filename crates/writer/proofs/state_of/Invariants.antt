@@ -1,9 +1,7 @@
 -- The loop's walks are those of the reading. Assumes nothing.
-use mathlib.Core.Path.{◌≡◌, sym, ◌∙◌}
-use borrow.Author.Rules.{rules}
+use mathlib.Core.Path.{◌≡◌}
 use Rattle.reading.specs.Reading.{stop, last, fuel}
 use Rattle.reading.proofs.Run.{left}
-use Rattle.reading.proofs.Loops.{further, stopped}
 use Rattle.writer.proofs.state_of.Given as goal
 
 abbrev pub invariant-loop-n : goal.invariant-loop-n

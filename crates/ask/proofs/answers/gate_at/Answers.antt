@@ -1,4 +1,3 @@
-use borrow.Author.Rules.{rules}
 use Rattle.ask.specs.Answers.{gate_told}
 use Rattle.ask.specs.Places.{in_stretch}
 use Rattle.ask.proofs.answers.gate_at.Goals as goal

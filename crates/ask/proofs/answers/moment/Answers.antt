@@ -1,4 +1,3 @@
-use borrow.Author.Rules.{rules}
 use Rattle.ask.specs.Answers.{moment_told}
 use Rattle.ask.proofs.answers.moment.Goals as goal
 

@@ -1,4 +1,3 @@
-use borrow.Author.Rules.{rules}
 use Rattle.ask.specs.Answers.{data_told}
 use Rattle.ask.proofs.answers.moment_data.Goals as goal
 

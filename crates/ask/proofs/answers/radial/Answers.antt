@@ -1,4 +1,3 @@
-use borrow.Author.Rules.{rules}
 use Rattle.ask.specs.Answers.{radial_told}
 use Rattle.ask.proofs.answers.radial.Goals as goal
 

@@ -1,5 +1,4 @@
 use mathlib.Core.Path.{refl}
-use borrow.Author.Rules.{rules}
 use Rattle.ask.specs.Answers.{RowTold}
 use Rattle.ask.proofs.answers.row.Goals as goal
 

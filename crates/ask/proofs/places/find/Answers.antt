@@ -1,4 +1,3 @@
-use borrow.Author.Rules.{rules}
 use Rattle.ask.specs.Places.{in_found}
 use Rattle.ask.proofs.places.find.Goals as goal
 

@@ -1,4 +1,3 @@
-use borrow.Author.Rules.{rules}
 use Rattle.ask.specs.Places.{in_stretch}
 use Rattle.ask.proofs.places.in_stretch.Goals as goal
 

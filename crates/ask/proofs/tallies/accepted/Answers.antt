@@ -1,5 +1,4 @@
 use native.Mathlib.Omega.{arith}
-use borrow.Author.Rules.{rules}
 use Rattle.rules.proofs.Numbers.{in-range, under, over}
 use Rattle.ask.specs.Tallies.{cut_accepted}
 use Rattle.ask.proofs.tallies.accepted.Goals as goal

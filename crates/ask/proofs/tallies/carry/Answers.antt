@@ -1,4 +1,3 @@
-use borrow.Author.Rules.{rules}
 use Rattle.ask.specs.Tallies.{carried}
 use Rattle.ask.proofs.tallies.carry.Goals as goal
 

@@ -1,4 +1,3 @@
-use borrow.Author.Rules.{rules}
 use Rattle.ask.proofs.tallies.none.Goals as goal
 
 pub returns : goal.returns

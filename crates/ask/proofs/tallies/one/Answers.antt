@@ -1,4 +1,3 @@
-use borrow.Author.Rules.{rules}
 use borrow.Author.Tests.{eq-eqb, ne_eqb}
 use Rattle.ask.proofs.Tallying.{azimuth-is}
 use Rattle.ask.proofs.tallies.one.Goals as goal

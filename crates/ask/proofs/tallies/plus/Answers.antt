@@ -1,6 +1,5 @@
 use mathlib.Core.Path.{refl}
 use native.Mathlib.Omega.{arith}
-use borrow.Author.Rules.{rules}
 use Rattle.ask.proofs.tallies.plus.Goals as goal
 
 -- the last sums stand far from the function's entry, where what they lean on is

@@ -1,13 +1,11 @@
 -- The loop's sums, with what the radials still to come add, are the file's. Assumes nothing.
 use mathlib.Core.Path.{sym, ap, ap₂, ◌∙◌}
 use native.Mathlib.Omega.{arith}
-use borrow.Author.Rules.{rules}
 use Rattle.walk.specs.declared.due.Walk.{Walk}
 use Rattle.reading.proofs.Loops.{further}
-use Rattle.reading.proofs.Run.{left}
 use Rattle.ask.specs.declared.tallies.Sums.{Sums}
 use Rattle.ask.specs.Tallies.{cut_accepted, tally_told}
-use Rattle.ask.proofs.Tallying.{Counting, counting-none, Adds, counting-turn, counting-ends}
+use Rattle.ask.proofs.Tallying.{counting-none, Adds, counting-turn, counting-ends}
 use Rattle.ask.proofs.tallies.tally_in.Goals as goal
 
 pub loop-s-init : goal.loop-s-init

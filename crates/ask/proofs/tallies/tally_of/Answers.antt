@@ -1,4 +1,3 @@
-use borrow.Author.Rules.{rules}
 use Rattle.ask.specs.Tallies.{tally_answer}
 use Rattle.ask.proofs.tallies.tally_of.Goals as goal
 

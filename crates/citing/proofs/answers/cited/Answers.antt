@@ -1,4 +1,3 @@
-use borrow.Author.Rules.{rules}
 use Rattle.citing.specs.Answers.{cited_at}
 use Rattle.citing.proofs.answers.cited.Goals as goal
 

@@ -1,5 +1,4 @@
 use mathlib.Core.Path.{sym, ap, ◌∙◌}
-use borrow.Author.Rules.{rules}
 use Rattle.citing.specs.declared.answers.WhyGate.TheVariants.{NoRadial}
 use Rattle.citing.specs.Answers.{in_radial}
 use Rattle.citing.proofs.answers.gate.Goals as goal

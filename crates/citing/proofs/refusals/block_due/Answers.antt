@@ -1,4 +1,3 @@
-use borrow.Author.Rules.{rules}
 use Rattle.citing.specs.Refusals.{block_due}
 use Rattle.citing.proofs.refusals.block_due.Goals as goal
 

@@ -1,5 +1,4 @@
 use mathlib.Core.Path.{sym, ap, ap₂, ◌∙◌}
-use borrow.Author.Rules.{rules}
 use Rattle.cut.specs.Cut.{cut_check}
 use Rattle.generic.specs.Generic.{generic_check}
 use Rattle.moment.specs.Moment.{moment_check}

@@ -1,9 +1,7 @@
 -- The loop's walks are those of the reading. Assumes nothing.
-use mathlib.Core.Path.{◌≡◌, refl, sym, ◌∙◌}
-use borrow.Author.Rules.{rules}
-use Rattle.reading.specs.Reading.{last, fuel, stop}
+use mathlib.Core.Path.{refl, sym, ◌∙◌}
+use Rattle.reading.specs.Reading.{stop}
 use Rattle.reading.proofs.Loops.{further, stopped}
-use Rattle.reading.proofs.Run.{left}
 use Rattle.citing.proofs.refusals.stop.Goals as goal
 
 pub loop-n-init : goal.loop-n-init

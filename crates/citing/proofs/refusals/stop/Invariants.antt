@@ -1,8 +1,6 @@
 -- The loop's walks are those of the reading. Assumes nothing.
-use mathlib.Core.Path.{◌≡◌, refl, sym, ◌∙◌}
-use borrow.Author.Rules.{rules}
+use mathlib.Core.Path.{◌≡◌}
 use Rattle.reading.specs.Reading.{last, fuel, stop}
-use Rattle.reading.proofs.Loops.{further, stopped}
 use Rattle.reading.proofs.Run.{left}
 use Rattle.citing.proofs.refusals.stop.Given as goal
 

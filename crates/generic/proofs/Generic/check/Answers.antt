@@ -1,4 +1,3 @@
-use borrow.Author.Rules.{rules}
 use Rattle.generic.specs.Generic.{generic_check}
 use Rattle.generic.proofs.Generic.check.Goals as goal
 

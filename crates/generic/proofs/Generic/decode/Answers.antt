@@ -1,5 +1,4 @@
 -- Each field is what its call ensures. Assumes nothing.
-use borrow.Author.Rules.{rules}
 use Rattle.generic.specs.Generic.{generic_of}
 use Rattle.generic.proofs.Generic.decode.Goals as goal
 

@@ -1,4 +1,3 @@
-use borrow.Author.Rules.{rules}
 use mathlib.Core.Path.{ap, ◌∙◌}
 use Rattle.generic.specs.Generic.{generic_of, generic_at}
 use Rattle.generic.proofs.Generic.read.Goals as goal

@@ -1,5 +1,4 @@
 -- The tests are those of the definition, in the same order. Assumes nothing.
-use borrow.Author.Rules.{rules}
 use borrow.Author.Tests.{eq-eqb, ne_eqb, le-leb, lt-leb, lt-ltb, le-ltb}
 use Rattle.index.specs.Making.{entry_of}
 use Rattle.index.proofs.making.entry_due.Goals as goal

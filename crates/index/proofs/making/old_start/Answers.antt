@@ -1,6 +1,5 @@
 -- The number of cuts modulo 256. Assumes nothing.
 use mathlib.Core.Path.{refl}
-use borrow.Author.Rules.{rules}
 use Rattle.le.specs.Le.{bytes}
 use Rattle.index.specs.Index.{old_start}
 use Rattle.index.proofs.making.old_start.Goals as goal

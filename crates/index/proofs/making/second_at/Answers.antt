@@ -1,6 +1,5 @@
 -- No sum is too large, since a start has 3 bytes at the most. Assumes nothing.
 use native.Mathlib.Omega.{arith}
-use borrow.Author.Rules.{rules}
 use Rattle.index.proofs.Starts.{length-start}
 use Rattle.index.proofs.making.second_at.Goals as goal
 

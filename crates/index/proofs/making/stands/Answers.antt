@@ -3,16 +3,14 @@ use Prim.Native.Nat.{ℕ, ◌+◌, ◌%◌, ◌^◌, ◌<◌}
 use native.Mathlib.Nat.{zero-add, mod-eq_of_lt}
 use native.Mathlib.Omega.{arith}
 use mathlib.Core.Path.{◌≡◌, sym, ap, ◌∙◌}
-use borrow.Author.Rules.{rules}
-use Rattle.std.proofs.lemmas.Bool.{not-true, not-false}
 use lib.ListN.{length}
 use Rattle.le.specs.Le.{le, Bytes}
 use Rattle.le.proofs.Laws.{part-all}
 use Rattle.reading.specs.Reading.{stretches}
 use Rattle.index.specs.Index.{start_of, index_for}
 use Rattle.index.specs.Making.{second_at}
-use Rattle.index.proofs.Agree.{Agree, agree-none, agree-low, agree-high, agree-all, stands_here, differs-here}
-use Rattle.index.proofs.Entries.{entries, Made, made, AtCount, at_count, AtPlace, at_place, at-end}
+use Rattle.index.proofs.Agree.{agree-none, agree-low, agree-high, agree-all, stands_here, differs-here}
+use Rattle.index.proofs.Entries.{made, AtCount, at_count, AtPlace, at_place, at-end}
 use Rattle.index.proofs.Same.{is_same}
 use Rattle.index.proofs.Starts.{length-start}
 use Rattle.index.proofs.Sections.{length-index, start-stands, start-differs, radials-here}

@@ -1,6 +1,5 @@
 -- One byte, or three. Assumes nothing.
 use mathlib.Core.Path.{sym, ap, ◌∙◌}
-use borrow.Author.Rules.{rules}
 use lib.ListN.{length}
 use Rattle.index.proofs.Starts.{start-old, start-new, length-old, length-new}
 use Rattle.index.proofs.making.start_length.Goals as goal

@@ -1,6 +1,5 @@
 use native.Mathlib.Omega.{arith}
 use mathlib.Core.Path.{sym}
-use borrow.Author.Rules.{rules}
 use Rattle.le.specs.Le.{le}
 use Rattle.le.proofs.Laws.{le-beyond}
 use Rattle.index.proofs.said.old_cuts.Goals as goal

@@ -1,6 +1,5 @@
 use native.Mathlib.Omega.{arith}
 use mathlib.Core.Path.{sym, ◌∙◌}
-use borrow.Author.Rules.{rules}
 use borrow.Author.Tests.{eq-eqb, ne_eqb}
 use Rattle.index.specs.Forms.{cuts_said, counts_at, old_cuts, radials_at}
 use Rattle.index.proofs.said.radials_at.Goals as goal

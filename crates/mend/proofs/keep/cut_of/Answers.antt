@@ -1,6 +1,5 @@
 -- By the cases of the definition. Assumes nothing.
 use mathlib.Core.Path.{sym, ap}
-use borrow.Author.Rules.{rules}
 use Rattle.mend.specs.Kept.{cut_of}
 use Rattle.mend.proofs.keep.cut_of.Goals as goal
 

@@ -1,11 +1,7 @@
 -- The loop's walk has passed all radials but those of its trace, and the last two that it passed decide with these. Assumes nothing.
-use mathlib.Core.Path.{◌≡◌, sym, ◌∙◌}
-use borrow.Author.Rules.{rules}
-use Rattle.reading.specs.Reading.{trace, fuel}
-use Rattle.reading.proofs.Run.{left}
+use mathlib.Core.Path.{sym, ◌∙◌}
 use Rattle.reading.proofs.Loops.{Further, further, no_more}
-use Rattle.mend.specs.Kept.{last_kept}
-use Rattle.mend.proofs.Keeping.{last_from, from_start, from_more, from-none}
+use Rattle.mend.proofs.Keeping.{from_start, from_more, from-none}
 use Rattle.mend.proofs.keep.last_kept.Goals as goal
 
 pub loop-s-init : goal.loop-s-init

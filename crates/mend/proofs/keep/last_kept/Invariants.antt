@@ -1,11 +1,9 @@
 -- The loop's walk has passed all radials but those of its trace, and the last two that it passed decide with these. Assumes nothing.
-use mathlib.Core.Path.{◌≡◌, sym, ◌∙◌}
-use borrow.Author.Rules.{rules}
+use mathlib.Core.Path.{◌≡◌}
 use Rattle.reading.specs.Reading.{trace, fuel}
 use Rattle.reading.proofs.Run.{left}
-use Rattle.reading.proofs.Loops.{Further, further, no_more}
 use Rattle.mend.specs.Kept.{last_kept}
-use Rattle.mend.proofs.Keeping.{last_from, from_start, from_more, from-none}
+use Rattle.mend.proofs.Keeping.{last_from}
 use Rattle.mend.proofs.keep.last_kept.Given as goal
 
 abbrev pub invariant-loop-s : goal.invariant-loop-s

@@ -1,6 +1,5 @@
 -- The field of the task's block, where the block stands. Assumes nothing.
 use mathlib.Core.Path.{◌∙◌}
-use borrow.Author.Rules.{rules}
 use Rattle.mend.proofs.Fields.{number_in}
 use Rattle.mend.proofs.lay.cut_number.Goals as goal
 

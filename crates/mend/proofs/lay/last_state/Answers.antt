@@ -2,7 +2,6 @@
 use Prim.Native.Nat.{ℕ}
 use mathlib.Core.Path.{sym, ap, ◌∙◌}
 use native.Mathlib.Omega.{arith}
-use borrow.Author.Rules.{rules}
 use Rattle.le.proofs.Laws.{le-part}
 use Rattle.rules.specs.States.{closing}
 use Rattle.task.specs.Task.{task_of, task_at}

@@ -1,7 +1,6 @@
 -- The pieces say how long the volume is. Assumes nothing.
 use Prim.Native.Nat.{ℕ, ◌-◌}
 use mathlib.Core.Path.{sym, ap, ◌∙◌}
-use borrow.Author.Rules.{rules}
 use lib.ListN.{length}
 use Rattle.mend.proofs.Pieces.{pieces, mended-is, long}
 use Rattle.mend.proofs.lay.size_of.Goals as goal

@@ -1,4 +1,3 @@
-use borrow.Author.Rules.{rules}
 use Rattle.moment.specs.Moment.{moment_check}
 use Rattle.moment.proofs.Moment.check.Goals as goal
 

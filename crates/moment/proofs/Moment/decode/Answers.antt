@@ -1,5 +1,4 @@
 -- Each field is what its call ensures. Assumes nothing.
-use borrow.Author.Rules.{rules}
 use Rattle.moment.specs.Moment.{moment_of}
 use Rattle.moment.proofs.Moment.decode.Goals as goal
 

@@ -1,4 +1,3 @@
-use borrow.Author.Rules.{rules}
 use mathlib.Core.Path.{ap, ◌∙◌}
 use Rattle.moment.specs.Moment.{moment_of, moment_at}
 use Rattle.moment.proofs.Moment.read.Goals as goal

@@ -1,6 +1,6 @@
 -- The loop's invariant: m * 2 ^ x stays what it is, and m has at least the digits that were won. Assumes nothing.
 use mathlib.Core.Path.{◌≡◌, refl, ◌∙◌}
-use Prim.Native.Nat.{◌-◌, ◌*◌, ◌^◌, ◌≤◌, ◌<◌}
+use Prim.Native.Nat.{◌-◌}
 use native.Mathlib.Omega.{arith}
 use Rattle.old.proofs.Angles.{bits_are, no-angle, still, turned, grown}
 use Rattle.old.proofs.angle.angle.Goals as goal

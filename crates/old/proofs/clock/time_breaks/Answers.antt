@@ -1,5 +1,4 @@
 use native.Mathlib.Omega.{arith}
-use borrow.Author.Rules.{rules}
 use borrow.Author.Tests.{le-leb, lt-leb, lt-ltb, le-ltb}
 use Rattle.old.specs.Clock.{seconds_of, time_clauses}
 use Rattle.old.proofs.clock.time_breaks.Goals as goal

@@ -1,5 +1,4 @@
 use native.Mathlib.Omega.{arith}
-use borrow.Author.Rules.{rules}
 use borrow.Author.Tests.{lt-ltb, le-ltb}
 use Rattle.old.specs.Codes.{new_code}
 use Rattle.old.proofs.codes.code.Goals as goal

@@ -1,5 +1,4 @@
 use native.Mathlib.Omega.{arith}
-use borrow.Author.Rules.{rules}
 use borrow.Author.Tests.{ne_eqb, eq-eqb}
 use Rattle.old.specs.Codes.{coding_of}
 use Rattle.old.proofs.codes.coding.Goals as goal

@@ -1,10 +1,10 @@
 -- The loop's invariant: the first i codes stand in `room` at `at`. Assumes nothing.
 use mathlib.Core.Path.{◌≡◌, refl, ap, ◌∙◌}
-use Prim.Native.Nat.{ℕ, ◌+◌, ◌-◌, ◌*◌, ◌/◌, ◌%◌, ◌≤◌, zero-le}
+use Prim.Native.Nat.{ℕ, ◌+◌, ◌-◌, ◌*◌, ◌/◌, ◌%◌, zero-le}
 use native.Mathlib.Omega.{arith}
-use lib.ListN.{length, take, length-set}
+use lib.ListN.{length, length-set}
 use lib.Seq.{take-length}
-use Rattle.le.specs.Le.{patch, bytes, run}
+use Rattle.le.specs.Le.{patch, bytes}
 use Rattle.le.proofs.Laws.{run_none, run-turn, stores2}
 use Rattle.old.specs.Codes.{new_bytes}
 use Rattle.old.proofs.Back.{two}

@@ -1,13 +1,9 @@
 -- The loop's invariant: the first i codes stand in `room` at `at`. Assumes nothing.
-use mathlib.Core.Path.{◌≡◌, refl, ap, ◌∙◌}
-use Prim.Native.Nat.{ℕ, ◌+◌, ◌-◌, ◌*◌, ◌/◌, ◌%◌, ◌≤◌, zero-le}
-use native.Mathlib.Omega.{arith}
-use lib.ListN.{length, take, length-set}
-use lib.Seq.{take-length}
-use Rattle.le.specs.Le.{patch, bytes, run}
-use Rattle.le.proofs.Laws.{run_none, run-turn, stores2}
+use mathlib.Core.Path.{◌≡◌}
+use Prim.Native.Nat.{◌-◌, ◌≤◌}
+use lib.ListN.{length, take}
+use Rattle.le.specs.Le.{patch, run}
 use Rattle.old.specs.Codes.{new_bytes}
-use Rattle.old.proofs.Back.{two}
 use Rattle.old.proofs.codes.put_codes_here.Given as goal
 
 abbrev pub invariant-loop-i : goal.invariant-loop-i

@@ -1,4 +1,3 @@
-use borrow.Author.Rules.{rules}
 use Rattle.old.specs.Headers.{gates_of}
 use Rattle.old.proofs.headers.gates.Goals as goal
 

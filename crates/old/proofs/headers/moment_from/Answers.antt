@@ -1,4 +1,3 @@
-use borrow.Author.Rules.{rules}
 use Rattle.old.specs.Headers.{moment_from}
 use Rattle.old.proofs.headers.moment_from.Goals as goal
 

@@ -1,5 +1,4 @@
 use native.Mathlib.Omega.{arith}
-use borrow.Author.Rules.{rules}
 use borrow.Author.Tests.{ne_eqb, eq-eqb}
 use Rattle.old.specs.Headers.{moment_length}
 use Rattle.old.proofs.headers.moment_length.Goals as goal

@@ -1,4 +1,3 @@
-use borrow.Author.Rules.{rules}
 use Rattle.old.specs.Headers.{place_of}
 use Rattle.old.proofs.headers.place.Goals as goal
 

@@ -2,7 +2,6 @@
 use mathlib.Core.List.{[], ◌∷◌}
 use Prim.Native.Nat.{◌+◌, ◌*◌}
 use native.Mathlib.Omega.{arith}
-use borrow.Author.Rules.{rules}
 use Rattle.old.specs.Headers.{radial_from}
 use Rattle.old.proofs.Lengths.{length-small}
 use Rattle.old.proofs.headers.radial_from.Goals as goal

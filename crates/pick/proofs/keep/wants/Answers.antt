@@ -1,6 +1,5 @@
 -- The type stands first in the header. Assumes nothing.
 use mathlib.Core.Path.{sym, ap, ◌∙◌}
-use borrow.Author.Rules.{rules}
 use Rattle.rules.specs.Masks.{bit}
 use Rattle.moments.proofs.Laws.{type-is}
 use Rattle.pick.proofs.keep.wants.Goals as goal

@@ -1,7 +1,6 @@
 -- The cut number stands in the task's block. Assumes nothing.
 use mathlib.Core.Path.{ap, ◌∙◌}
 use Prim.Native.Nat.{ℕ, ◌+◌}
-use borrow.Author.Rules.{rules}
 use Rattle.walk.specs.Due.{cut_place}
 use Rattle.mend.proofs.Fields.{number_in}
 use Rattle.pick.proofs.lay.first_radial.Goals as goal

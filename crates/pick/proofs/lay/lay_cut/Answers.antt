@@ -2,7 +2,6 @@
 use Prim.Native.Nat.{ℕ, ◌+◌}
 use mathlib.Core.Path.{ap, ◌∙◌}
 use lib.Bits.{bit_and}
-use borrow.Author.Rules.{rules}
 use Rattle.le.specs.Le.{bytes, stored}
 use Rattle.le.proofs.Laws.{part-is}
 use Rattle.pick.proofs.Laying.{cut-laid}

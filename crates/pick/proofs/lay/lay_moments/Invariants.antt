@@ -1,15 +1,6 @@
 -- What was put, with what is still to come, is what is to be there. Assumes nothing.
-use Prim.Native.Nat.{ℕ, ◌-◌}
-use native.Mathlib.Omega.{arith}
-use mathlib.Core.Path.{◌≡◌, sym, ap, ap₂, ◌∙◌}
-use borrow.Author.Rules.{rules}
-use lib.ListN.{length}
-use Rattle.le.proofs.Laws.{length-patch}
-use Rattle.moments.specs.declared.Ahead.TheVariants.{There}
-use Rattle.moments.specs.Moments.{ahead_of}
-use Rattle.moments.proofs.Laws.{there}
-use Rattle.pick.proofs.Filling.{Filling, Filled, filling-none, filling-more, filling-fits, filling-same, filling-all}
-use Rattle.pick.proofs.Keeping.{Gets, gets, skips, none-still}
+use Prim.Native.Nat.{◌-◌}
+use Rattle.pick.proofs.Filling.{Filling}
 use Rattle.pick.proofs.lay.lay_moments.Given as goal
 
 abbrev pub invariant-loop-at : goal.invariant-loop-at

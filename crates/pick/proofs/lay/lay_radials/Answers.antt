@@ -1,11 +1,10 @@
 -- The radials so far are laid, and the others are still to come. Assumes nothing.
-use Prim.Native.Nat.{ℕ, ◌+◌, ◌-◌, ◌≤◌}
+use Prim.Native.Nat.{ℕ, ◌+◌, ◌-◌}
 use native.Mathlib.Omega.{arith}
 use mathlib.Core.Path.{◌≡◌, sym, ap, ◌∙◌}
-use borrow.Author.Rules.{rules}
 use lib.ListN.{length, take, drop}
 use Rattle.le.proofs.Laws.{length-patch}
-use Rattle.pick.proofs.Turns.{Radials, RadialTurn, end_at, end-in, radials-first, radials-more, radials-all}
+use Rattle.pick.proofs.Turns.{RadialTurn, end_at, end-in, radials-first, radials-more, radials-all}
 use Rattle.pick.proofs.lay.lay_radials.Goals as goal
 
 pub loop-left-init : goal.loop-left-init

@@ -1,11 +1,6 @@
 -- The radials so far are laid, and the others are still to come. Assumes nothing.
-use Prim.Native.Nat.{ℕ, ◌+◌, ◌-◌, ◌≤◌}
-use native.Mathlib.Omega.{arith}
-use mathlib.Core.Path.{◌≡◌, sym, ap, ◌∙◌}
-use borrow.Author.Rules.{rules}
-use lib.ListN.{length, take, drop}
-use Rattle.le.proofs.Laws.{length-patch}
-use Rattle.pick.proofs.Turns.{Radials, RadialTurn, end_at, end-in, radials-first, radials-more, radials-all}
+use Prim.Native.Nat.{◌-◌}
+use Rattle.pick.proofs.Turns.{Radials}
 use Rattle.pick.proofs.lay.lay_radials.Given as goal
 
 abbrev pub invariant-loop-left : goal.invariant-loop-left

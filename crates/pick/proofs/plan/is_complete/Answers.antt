@@ -1,6 +1,5 @@
 -- By the tests of the definition. Assumes nothing.
 use mathlib.Core.Path.{sym, ◌∙◌}
-use borrow.Author.Rules.{rules}
 use Rattle.pick.proofs.plan.is_complete.Goals as goal
 
 pub returns-then-is_end : goal.returns-then-is_end

@@ -1,6 +1,5 @@
 -- By the cases of the definition. Assumes nothing.
 use mathlib.Core.Path.{sym, ap}
-use borrow.Author.Rules.{rules}
 use Rattle.reading.specs.declared.Found.{Found}
 use Rattle.pick.specs.Pick.{plan_by}
 use Rattle.pick.proofs.plan.plan_by.Goals as goal

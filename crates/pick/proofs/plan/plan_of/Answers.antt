@@ -3,7 +3,6 @@ use Prim.Native.Nat.{ℕ, ◌+◌, ◌≤◌}
 use native.Mathlib.Omega.{arith}
 use mathlib.Core.Bool.{◌&&◌}
 use mathlib.Core.Path.{◌≡◌, sym, ap, ap₂, ◌∙◌}
-use borrow.Author.Rules.{rules}
 use lib.Dec.{leb}
 use lib.ListN.{length}
 use Rattle.le.specs.Le.{Bytes}
@@ -13,11 +12,10 @@ use Rattle.reading.specs.declared.Found.{Found}
 use Rattle.reading.specs.Reading.{bytes_of}
 use Rattle.index.specs.Answer.{complete}
 use Rattle.reading.proofs.Loops.{Further, further, no_more, stopped}
-use Rattle.reading.proofs.Run.{left}
 use Rattle.pick.specs.declared.keep.Kept.{Kept}
 use Rattle.pick.specs.Keep.{kept_of}
 use Rattle.pick.specs.Pick.{picked, plan_by}
-use Rattle.pick.proofs.Planning.{complete-is, is-complete, Planned, Next, Whole, planned-none, planned-more, planned-all}
+use Rattle.pick.proofs.Planning.{complete-is, is-complete, Next, Whole, planned-none, planned-more, planned-all}
 use Rattle.pick.proofs.Standing.{Stands, stands}
 use Rattle.pick.proofs.Turns.{picked-long, picked-short}
 use Rattle.pick.proofs.plan.plan_of.Goals as goal

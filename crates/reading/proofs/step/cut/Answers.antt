@@ -1,4 +1,3 @@
-use borrow.Author.Rules.{rules}
 use Rattle.reading.specs.Step.{take_cut}
 use Rattle.reading.proofs.step.cut.Goals as goal
 

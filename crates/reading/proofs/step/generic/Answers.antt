@@ -1,4 +1,3 @@
-use borrow.Author.Rules.{rules}
 use Rattle.reading.specs.Step.{take_generic}
 use Rattle.reading.proofs.step.generic.Goals as goal
 

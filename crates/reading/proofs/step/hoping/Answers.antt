@@ -1,5 +1,4 @@
 use mathlib.Core.Path.{sym}
-use borrow.Author.Rules.{rules}
 use Rattle.reading.specs.Step.{hoping}
 use Rattle.reading.proofs.Run.{untaken}
 use Rattle.reading.proofs.Known.{not-took}

@@ -1,4 +1,3 @@
-use borrow.Author.Rules.{rules}
 use Rattle.reading.specs.Step.{take_moment, hope_after_moment}
 use Rattle.reading.proofs.step.moment.Goals as goal
 

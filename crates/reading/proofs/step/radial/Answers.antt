@@ -1,4 +1,3 @@
-use borrow.Author.Rules.{rules}
 use Rattle.radial.specs.Radial.{radial_at}
 use Rattle.reading.proofs.Masks.{by-masks}
 use Rattle.reading.proofs.step.radial.Goals as goal

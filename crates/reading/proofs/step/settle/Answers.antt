@@ -1,4 +1,3 @@
-use borrow.Author.Rules.{rules}
 use Rattle.reading.specs.Step.{settle}
 use Rattle.reading.proofs.step.settle.Goals as goal
 

@@ -1,4 +1,3 @@
-use borrow.Author.Rules.{rules}
 use Rattle.reading.specs.Step.{take_site}
 use Rattle.reading.proofs.step.site.Goals as goal
 

@@ -1,4 +1,3 @@
-use borrow.Author.Rules.{rules}
 use Rattle.reading.specs.Step.{take_task}
 use Rattle.reading.proofs.step.task.Goals as goal
 

@@ -1,5 +1,4 @@
 use native.Mathlib.Omega.{arith}
-use borrow.Author.Rules.{rules}
 use Rattle.reading.specs.Step.{take_moment, hope_after_moment}
 use Rattle.reading.proofs.Rooms.{fits-room, past_room}
 use Rattle.reading.proofs.take.moment.Goals as goal

@@ -1,5 +1,4 @@
 use native.Mathlib.Omega.{arith}
-use borrow.Author.Rules.{rules}
 use Rattle.reading.proofs.Rooms.{fits-room, past_room}
 use Rattle.reading.proofs.take.radial.Goals as goal
 

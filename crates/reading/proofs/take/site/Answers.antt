@@ -1,5 +1,4 @@
 use native.Mathlib.Omega.{arith}
-use borrow.Author.Rules.{rules}
 use Rattle.reading.specs.Step.{take_site}
 use Rattle.reading.proofs.Rooms.{fits-room, past_room}
 use Rattle.reading.proofs.take.site.Goals as goal

@@ -1,6 +1,5 @@
 use mathlib.Core.Path.{refl, ap, sym, ◌∙◌}
 use native.Mathlib.Omega.{arith}
-use borrow.Author.Rules.{rules}
 use Rattle.walk.specs.declared.due.Due.TheVariants as due
 use Rattle.walk.specs.Due.{size_at, is_end}
 use Rattle.reading.specs.declared.step.Step.TheVariants.{Took, Open}

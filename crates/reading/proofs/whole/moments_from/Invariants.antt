@@ -1,16 +1,10 @@
 -- The loop's walks come to the same whole radial, or stop. Assumes nothing.
-use mathlib.Core.Path.{◌≡◌, refl, sym, subst, ◌∙◌}
+use mathlib.Core.Path.{◌≡◌}
 use Prim.Native.Nat.{◌≤◌}
-use native.Mathlib.Omega.{arith}
-use borrow.Author.Rules.{rules}
 use lib.ListN.{length}
 use Rattle.walk.specs.declared.due.Due.TheVariants as due
-use Rattle.reading.specs.declared.step.Step.TheVariants.{Took}
-use Rattle.reading.specs.Step.{step_of}
 use Rattle.reading.specs.Reading.{advance_of}
-use Rattle.reading.proofs.Run.{left, taken, Stays}
-use Rattle.reading.proofs.Loops.{advance-stops}
-use Rattle.reading.proofs.Known.{not-took, moment-then, moment-on, data-then, data-on, data-last}
+use Rattle.reading.proofs.Run.{left}
 use Rattle.reading.proofs.whole.moments_from.Given as goal
 
 abbrev pub invariant-loop-m : goal.invariant-loop-m

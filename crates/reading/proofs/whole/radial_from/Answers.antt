@@ -1,5 +1,4 @@
 use mathlib.Core.Path.{◌≡◌, sym, subst, ◌∙◌}
-use borrow.Author.Rules.{rules}
 use Rattle.reading.specs.declared.step.Step.TheVariants.{Took}
 use Rattle.reading.specs.Step.{step_of}
 use Rattle.reading.proofs.Run.{taken, Stays}

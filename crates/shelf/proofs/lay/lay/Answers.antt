@@ -1,5 +1,5 @@
 -- The header's length of data is how many bytes its moments have, so the test is that all of them fit. Assumes nothing.
-use Rattle.std.proofs.Common.{◌≡◌, ℕ, ◌+◌, ◌≤◌, leb, List, length, sym, ap, ◌∙◌, arith, rules, leb-false, leb-true}
+use Rattle.std.proofs.Common.{◌≡◌, ℕ, ◌+◌, ◌≤◌, leb, List, length, sym, ap, ◌∙◌, arith, leb-false, leb-true}
 use Rattle.le.specs.Le.{patch, run}
 use Rattle.le.proofs.Laws.{stored-in, stored-out}
 use Rattle.radial.specs.declared.Radial.{Radial}

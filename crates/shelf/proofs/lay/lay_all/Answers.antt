@@ -1,5 +1,5 @@
 -- The loop's invariant: the first k radials are laid down. Assumes nothing.
-use Rattle.std.proofs.Common.{◌≡◌, ℕ, ◌-◌, ◌≤◌, length, refl, ap, ◌∙◌, zero-le, add-one, arith, rules}
+use Rattle.std.proofs.Common.{◌≡◌, ℕ, ◌-◌, refl, ap, ◌∙◌, zero-le, add-one, arith}
 use Rattle.old.specs.Shelf.{radial_place}
 use Rattle.shelf.specs.Settled.{Lay, lay_over, lay_first}
 use Rattle.shelf.proofs.lay.lay_all.Goals as goal

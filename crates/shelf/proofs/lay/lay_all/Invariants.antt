@@ -1,7 +1,6 @@
 -- The loop's invariant: the first k radials are laid down. Assumes nothing.
-use Rattle.std.proofs.Common.{◌≡◌, ℕ, ◌-◌, ◌≤◌, length, refl, ap, ◌∙◌, zero-le, add-one, arith, rules}
-use Rattle.old.specs.Shelf.{radial_place}
-use Rattle.shelf.specs.Settled.{Lay, lay_over, lay_first}
+use Rattle.std.proofs.Common.{◌≡◌, ◌-◌, ◌≤◌, length}
+use Rattle.shelf.specs.Settled.{Lay, lay_first}
 use Rattle.shelf.proofs.lay.lay_all.Given as goal
 
 abbrev pub invariant-loop-k : goal.invariant-loop-k

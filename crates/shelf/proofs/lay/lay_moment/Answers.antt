@@ -1,5 +1,5 @@
 -- The header is laid down, and the codes behind it; of no gates, nothing. Assumes nothing.
-use Rattle.std.proofs.Common.{ℕ, ◌+◌, ◌*◌, ◌<◌, [], length, sym, ap, ◌∙◌, arith, rules, le-leb}
+use Rattle.std.proofs.Common.{ℕ, ◌+◌, ◌*◌, ◌<◌, [], length, sym, ap, ◌∙◌, arith, le-leb}
 use lib.Seq.{paste-zero}
 use Rattle.le.specs.Le.{part, patch, run}
 use Rattle.le.proofs.Laws.{laid-first, laid_next, length_part}

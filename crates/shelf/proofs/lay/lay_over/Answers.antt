@@ -1,5 +1,5 @@
 -- Taken means that no rule of the old radial's own is broken, so that its counts are such as `lay` asks for. Assumes nothing.
-use Rattle.std.proofs.Common.{◌≡◌, ℕ, true, List, length, sym, refl, ap, ◌∙◌, arith, rules}
+use Rattle.std.proofs.Common.{◌≡◌, ℕ, true, List, length, sym, refl, ap, ◌∙◌, arith}
 use Rattle.le.specs.Le.{run}
 use Rattle.rules.specs.declared.check.Check.{Check}
 use Rattle.rules.specs.declared.check.Check.TheVariants.{Fine, Broken}

@@ -1,5 +1,4 @@
 -- `next_site` meets its promise: nothing more where a block is refused already, else what the writer's own settling says. Assumes nothing.
-use Rattle.std.proofs.Common.{rules}
 use Rattle.shelf.proofs.Unless.{goes_on, stays}
 use Rattle.shelf.proofs.settle.next_site.Goals as goal
 

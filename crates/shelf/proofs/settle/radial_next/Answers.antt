@@ -1,5 +1,4 @@
 -- `radial_next` meets its promise: the header from the old radial and the two counts, each counted by one. Assumes nothing.
-use Rattle.std.proofs.Common.{rules}
 use Rattle.shelf.proofs.settle.radial_next.Goals as goal
 
 pub returns : goal.returns

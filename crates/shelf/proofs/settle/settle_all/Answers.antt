@@ -1,5 +1,5 @@
 -- `settle_all` meets its promise. The loop's invariant: the first k old radials are settled. Assumes nothing.
-use Rattle.std.proofs.Common.{◌≡◌, ℕ, ◌+◌, ◌-◌, ◌≤◌, List, length, refl, ap, ◌∙◌, ap₂, add-one, arith, rules}
+use Rattle.std.proofs.Common.{◌≡◌, ℕ, ◌+◌, ◌-◌, List, length, refl, ap, ◌∙◌, ap₂, add-one, arith}
 use Rattle.writer.specs.declared.order.Put.{Put}
 use Rattle.old.specs.declared.record.OldRadial.{OldRadial}
 use Rattle.old.specs.Old.{old_at}

@@ -1,10 +1,6 @@
 -- `settle_all` meets its promise. The loop's invariant: the first k old radials are settled. Assumes nothing.
-use Rattle.std.proofs.Common.{◌≡◌, ℕ, ◌+◌, ◌-◌, ◌≤◌, List, length, refl, ap, ◌∙◌, ap₂, add-one, arith, rules}
-use Rattle.writer.specs.declared.order.Put.{Put}
-use Rattle.old.specs.declared.record.OldRadial.{OldRadial}
-use Rattle.old.specs.Old.{old_at}
-use Rattle.old.specs.Shelf.{radials_in, radial_place}
-use Rattle.shelf.specs.Settled.{settle_over, settle_first}
+use Rattle.std.proofs.Common.{◌≡◌, ◌-◌, ◌≤◌, length}
+use Rattle.shelf.specs.Settled.{settle_first}
 use Rattle.shelf.proofs.settle.settle_all.Given as goal
 
 abbrev pub invariant-loop-k : goal.invariant-loop-k

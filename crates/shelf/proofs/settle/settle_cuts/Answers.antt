@@ -1,5 +1,5 @@
 -- `settle_cuts` meets its promise. The loop's invariant: the first k cut records are settled. Assumes nothing.
-use Rattle.std.proofs.Common.{◌≡◌, ℕ, ◌+◌, ◌-◌, ◌*◌, ◌/◌, ◌≤◌, List, length, refl, ap, ◌∙◌, ap₂, add-one, arith, rules}
+use Rattle.std.proofs.Common.{◌≡◌, ℕ, ◌+◌, ◌-◌, ◌*◌, ◌/◌, List, length, refl, ap, ◌∙◌, ap₂, add-one, arith}
 use Rattle.cut.specs.declared.Cut.{Cut}
 use Rattle.cut.specs.Cut.{cut_at, cut_size}
 use Rattle.writer.specs.declared.order.Put.{Put}

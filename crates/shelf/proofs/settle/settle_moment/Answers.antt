@@ -1,6 +1,6 @@
 -- `settle_moment` meets its promise: a moment of no gates is left out; of any other the header is settled, and then the data. Assumes
 -- nothing.
-use Rattle.std.proofs.Common.{◌≡◌, ℕ, ◌*◌, sym, ◌∙◌, rules, eq-eqb, ne_eqb}
+use Rattle.std.proofs.Common.{◌≡◌, ℕ, ◌*◌, sym, ◌∙◌, eq-eqb, ne_eqb}
 use Rattle.moment.specs.declared.Moment.{Moment}
 use Rattle.writer.specs.declared.order.Put.{Put}
 use Rattle.writer.specs.Block.{moment}

@@ -1,5 +1,4 @@
 -- `settle_moments` meets its promise: the three moments, one after the other. Assumes nothing.
-use Rattle.std.proofs.Common.{rules}
 use Rattle.shelf.proofs.settle.settle_moments.Goals as goal
 
 pub returns : goal.returns

@@ -1,5 +1,5 @@
 -- `settle_ours` meets its promise: the generic, site and task records, the cut records, and what is left behind these. Assumes nothing.
-use Rattle.std.proofs.Common.{◌≡◌, ℕ, ◌/◌, ◌%◌, true, List, length, refl, ap, ◌∙◌, rules}
+use Rattle.std.proofs.Common.{◌≡◌, ℕ, ◌/◌, ◌%◌, true, List, length, refl, ap, ◌∙◌}
 use Rattle.cut.specs.Cut.{cut_size}
 use Rattle.generic.specs.declared.Generic.{Generic}
 use Rattle.generic.specs.Generic.{generic_size}

@@ -1,6 +1,6 @@
 -- `settle_over` meets its promise: nothing more where a block is refused already; else a broken rule of the old radial's own; else its
 -- header and its moments. Assumes nothing.
-use Rattle.std.proofs.Common.{◌≡◌, ℕ, true, List, sym, ap, ◌∙◌, rules}
+use Rattle.std.proofs.Common.{◌≡◌, ℕ, true, List, sym, ap, ◌∙◌}
 use Rattle.rules.specs.declared.check.Check.{Check}
 use Rattle.rules.specs.declared.check.Check.TheVariants.{Fine, Broken}
 use Rattle.rules.specs.declared.check.Clause.{Clause}

@@ -1,6 +1,6 @@
 -- `settle_radial` meets its promise: the masks that are read among the cut records are those of the radial's cut, where these records
 -- stand in the volume. Assumes nothing.
-use Rattle.std.proofs.Common.{◌≡◌, ℕ, ◌+◌, ◌-◌, true, List, ◌++◌, length, replicate, sym, refl, ap, ◌∙◌, arith, rules}
+use Rattle.std.proofs.Common.{◌≡◌, ℕ, ◌+◌, ◌-◌, true, List, ◌++◌, length, replicate, sym, refl, ap, ◌∙◌, arith}
 use Rattle.le.specs.Le.{le}
 use Rattle.le.proofs.Laws.{part-past, le-own}
 use Rattle.radial.specs.declared.Radial.{Radial}

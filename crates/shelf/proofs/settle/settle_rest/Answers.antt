@@ -1,5 +1,5 @@
 -- `settle_rest` meets its promise: nothing to settle where no byte is left, else data of so many bytes. Assumes nothing.
-use Rattle.std.proofs.Common.{rules, eq-eqb, ne_eqb}
+use Rattle.std.proofs.Common.{eq-eqb, ne_eqb}
 use Rattle.shelf.specs.Settled.{settle_rest}
 use Rattle.shelf.proofs.settle.settle_rest.Goals as goal
 

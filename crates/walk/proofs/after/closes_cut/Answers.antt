@@ -1,4 +1,3 @@
-use borrow.Author.Rules.{rules}
 use Rattle.walk.specs.After.{closes_cut}
 use Rattle.walk.proofs.after.closes_cut.Goals as goal
 

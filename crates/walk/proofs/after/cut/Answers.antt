@@ -1,4 +1,3 @@
-use borrow.Author.Rules.{rules}
 use Rattle.walk.proofs.after.cut.Goals as goal
 
 pub returns : goal.returns

@@ -1,4 +1,3 @@
-use borrow.Author.Rules.{rules}
 use borrow.Author.Tests.{lt-ltb, le-ltb}
 use Rattle.walk.specs.Due.{due_if}
 use Rattle.walk.specs.After.{after_data}

@@ -1,4 +1,3 @@
-use borrow.Author.Rules.{rules}
 use Rattle.walk.proofs.after.moment.Goals as goal
 
 pub returns : goal.returns

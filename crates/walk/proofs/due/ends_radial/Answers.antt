@@ -1,4 +1,3 @@
-use borrow.Author.Rules.{rules}
 use Rattle.walk.specs.Due.{ends_radial}
 use Rattle.walk.proofs.due.ends_radial.Goals as goal
 

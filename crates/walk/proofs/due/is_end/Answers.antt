@@ -1,4 +1,3 @@
-use borrow.Author.Rules.{rules}
 use Rattle.walk.specs.Due.{is_end}
 use Rattle.walk.proofs.due.is_end.Goals as goal
 

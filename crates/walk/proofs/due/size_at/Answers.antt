@@ -1,4 +1,3 @@
-use borrow.Author.Rules.{rules}
 use Rattle.walk.specs.Due.{size_at}
 use Rattle.walk.proofs.due.size_at.Goals as goal
 

@@ -1,4 +1,3 @@
-use borrow.Author.Rules.{rules}
 use Rattle.walk.specs.Hope.{moments_hope}
 use Rattle.walk.proofs.hope.moments.Goals as goal
 

@@ -1,5 +1,4 @@
 use mathlib.Core.Path.{sym, ◌∙◌}
-use borrow.Author.Rules.{rules}
 use Rattle.walk.specs.Hope.{radial_hope}
 use Rattle.walk.proofs.hope.radial.Goals as goal
 

@@ -1,4 +1,3 @@
-use borrow.Author.Rules.{rules}
 use Rattle.walk.specs.Hope.{radials_hope}
 use Rattle.walk.proofs.hope.radials.Goals as goal
 

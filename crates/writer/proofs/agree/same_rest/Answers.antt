@@ -1,4 +1,3 @@
-use borrow.Author.Rules.{rules}
 use Rattle.writer.proofs.agree.same_rest.Goals as goal
 
 pub returns : goal.returns

@@ -1,4 +1,3 @@
-use borrow.Author.Rules.{rules}
 use Rattle.writer.specs.Agree.{same_walk}
 use Rattle.writer.proofs.agree.same_walk.Goals as goal
 

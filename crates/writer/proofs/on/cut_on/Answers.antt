@@ -1,4 +1,3 @@
-use borrow.Author.Rules.{rules}
 use Rattle.writer.specs.Block.{cut}
 use Rattle.writer.proofs.Putting.{puts-taken, puts-refused}
 use Rattle.writer.proofs.on.cut_on.Goals as goal

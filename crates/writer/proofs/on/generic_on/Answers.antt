@@ -1,4 +1,3 @@
-use borrow.Author.Rules.{rules}
 use Rattle.writer.specs.Block.{generic}
 use Rattle.writer.proofs.Putting.{puts-taken, puts-refused}
 use Rattle.writer.proofs.on.generic_on.Goals as goal

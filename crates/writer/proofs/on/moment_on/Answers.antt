@@ -1,4 +1,3 @@
-use borrow.Author.Rules.{rules}
 use Rattle.writer.specs.Block.{moment}
 use Rattle.writer.proofs.Putting.{puts-taken, puts-refused}
 use Rattle.writer.proofs.on.moment_on.Goals as goal

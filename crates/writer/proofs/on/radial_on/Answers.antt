@@ -2,7 +2,6 @@ use Prim.Native.Nat.{ℕ, ◌+◌}
 use mathlib.Core.Path.{◌≡◌, ap, ◌∙◌}
 use mathlib.Core.Bool.{true}
 use mathlib.Core.List.{List}
-use borrow.Author.Rules.{rules}
 use lib.ListN.{length}
 use Rattle.le.specs.Le.{le}
 use Rattle.radial.specs.declared.Radial.{Radial}

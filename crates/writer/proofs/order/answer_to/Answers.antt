@@ -1,4 +1,3 @@
-use borrow.Author.Rules.{rules}
 use borrow.Author.Tests.{lt-ltb, le-ltb, eq-eqb, ne_eqb}
 use Rattle.writer.specs.Put.{answer_to}
 use Rattle.writer.proofs.order.answer_to.Goals as goal

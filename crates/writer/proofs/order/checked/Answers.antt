@@ -1,4 +1,3 @@
-use borrow.Author.Rules.{rules}
 use Rattle.writer.specs.Put.{checked}
 use Rattle.writer.proofs.order.checked.Goals as goal
 

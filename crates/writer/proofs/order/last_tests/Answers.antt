@@ -1,4 +1,3 @@
-use borrow.Author.Rules.{rules}
 use Rattle.writer.specs.Put.{last_tests}
 use Rattle.writer.proofs.order.last_tests.Goals as goal
 

@@ -1,4 +1,3 @@
-use borrow.Author.Rules.{rules}
 use Rattle.writer.specs.Put.{next_of}
 use Rattle.writer.proofs.order.next_of.Goals as goal
 

@@ -1,4 +1,3 @@
-use borrow.Author.Rules.{rules}
 use Rattle.writer.specs.Agree.{rank_of}
 use Rattle.writer.proofs.order.rank.Goals as goal
 

@@ -1,5 +1,4 @@
 use native.Mathlib.Omega.{arith}
-use borrow.Author.Rules.{rules}
 use Rattle.writer.proofs.Putting.{settled-in}
 use Rattle.writer.proofs.settle.radial.Goals as goal
 

@@ -1,4 +1,3 @@
-use borrow.Author.Rules.{rules}
 use Rattle.old.specs.Old.{old_check}
 use Rattle.old.proofs.record.OldRadial.check.Goals as goal
 

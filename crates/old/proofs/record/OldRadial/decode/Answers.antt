@@ -1,5 +1,4 @@
 -- Each field is what its call ensures. Assumes nothing.
-use borrow.Author.Rules.{rules}
 use Rattle.old.specs.Old.{old_of}
 use Rattle.old.proofs.record.OldRadial.decode.Goals as goal
 

@@ -1,4 +1,3 @@
-use borrow.Author.Rules.{rules}
 use mathlib.Core.Path.{ap, ◌∙◌}
 use Rattle.old.specs.Old.{old_of, old_at}
 use Rattle.old.proofs.record.OldRadial.read.Goals as goal
