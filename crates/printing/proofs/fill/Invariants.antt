@@ -1,12 +1,8 @@
 -- The loop's invariant: the first i bytes are the one, and the others as they were. Assumes nothing.
-use mathlib.Core.Path.{◌≡◌, refl, sym, ap, ◌∙◌}
-use mathlib.Core.List.{List, [], ◌∷◌, ◌++◌, append_assoc, append-nil}
-use Prim.Native.Nat.{ℕ, suc, ◌+◌, ◌-◌, ◌≤◌, ◌<◌, zero-le}
-use native.Mathlib.Numerals.{add-one}
-use native.Mathlib.Omega.{arith}
-use borrow.Author.Rules.{rules}
-use lib.ListN.{length, drop, set, get_or, replicate, length-set, length-replicate, replicate-append-replicate}
-use lib.Seq.{drop-cons, drop-length, set_at}
+use mathlib.Core.Path.{◌≡◌}
+use mathlib.Core.List.{◌++◌}
+use Prim.Native.Nat.{◌-◌, ◌≤◌}
+use lib.ListN.{length, drop, replicate}
 use Rattle.printing.proofs.fill.Given as goal
 
 abbrev pub invariant-loop-i : goal.invariant-loop-i

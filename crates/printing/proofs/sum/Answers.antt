@@ -1,10 +1,9 @@
 -- The loop's invariant: from the number so far, the bytes that are left make the whole sum. Assumes nothing.
 use mathlib.Core.Path.{◌≡◌, refl, sym, ap, ◌∙◌}
-use Prim.Native.Nat.{ℕ, ◌+◌, ◌-◌, ◌≤◌}
+use Prim.Native.Nat.{ℕ, ◌+◌, ◌≤◌}
 use native.Mathlib.Numerals.{add-one}
 use native.Mathlib.Omega.{arith}
 use mathlib.Core.List.{List}
-use borrow.Author.Rules.{rules}
 use lib.ListN.{length, drop, get_or}
 use lib.Seq.{drop-cons, drop-length}
 use Rattle.printing.specs.Sum.{mixed_of, sum_from}
@@ -31,6 +30,3 @@ returns c =
 
 pub loop-i-init : goal.loop-i-init
 loop-i-init c = (omega arith, refl)
-
-pub overflow_cast-s : goal.overflow_cast-s
-overflow_cast-s c = omega (arith, c.shared_slice_known-in-loop-i-1.given c.loop-i.i)

@@ -1,13 +1,8 @@
 -- The loop's invariant: from the number so far, the bytes that are left make the whole sum. Assumes nothing.
-use mathlib.Core.Path.{◌≡◌, refl, sym, ap, ◌∙◌}
-use Prim.Native.Nat.{ℕ, ◌+◌, ◌-◌, ◌≤◌}
-use native.Mathlib.Numerals.{add-one}
-use native.Mathlib.Omega.{arith}
-use mathlib.Core.List.{List}
-use borrow.Author.Rules.{rules}
-use lib.ListN.{length, drop, get_or}
-use lib.Seq.{drop-cons, drop-length}
-use Rattle.printing.specs.Sum.{mixed_of, sum_from}
+use mathlib.Core.Path.{◌≡◌}
+use Prim.Native.Nat.{◌-◌, ◌≤◌}
+use lib.ListN.{length, drop}
+use Rattle.printing.specs.Sum.{sum_from}
 use Rattle.printing.proofs.sum.Given as goal
 
 abbrev pub invariant-loop-i : goal.invariant-loop-i
