@@ -18,7 +18,8 @@ import sys
 OWN_CUT, FIRST_CUT = 'cut_place(w.count.cut)', 'cut_place(1)'
 OWN, FIRST = 'cut_place w.count.cut', 'cut_place 1'
 BY_SCAN, BY_CUT = 'cond (rhi scan) 6 (cond (ltb cut cuts) 2 4)', 'cond (ltb cut cuts) 2 (cond (rhi scan) 6 4)'
-CLOSING = 'crates/rules/proofs/states/closing/Proof.antt'
+CLOSING = 'crates/rules/proofs/states/closing/Answers.antt'
+OTHER_SCAN = 'not-turned _ c.in_default.in_default-own.rest.1'
 EARLIER, LAST = (f'{law} a.cut a.cuts (omega arith)' for law in ('lt-ltb', 'le-ltb'))
 NOT_SUC = '''not-suc : (a b : ℕ) → not (leb (a + 1) b) ≡ leb b a
 not-suc a b = dite (dec_lt b (a + 1)) (λ h. rw (lt-leb (a + 1) b h, le-leb b a (omega arith))) (λ h. rw (le-leb (a + 1) b (omega arith), lt-leb b a (omega arith)))
@@ -442,9 +443,10 @@ SLIPS = {
          'small-if (ltb cut cuts) 2 (cond (rhi scan) 6 4) 2147483648 (lit< tt) (small-if (rhi scan) 6 4 '),
         ('crates/rules/proofs/Numbers.antt', '(cond r 6 (cond d 2 4))', '(cond d 2 (cond r 6 4))'),
         ('crates/rules/proofs/Numbers.antt', 'go true a d e = omega arith', 'go true a true e = omega arith\n    go true a false e = omega arith'),
-        (CLOSING, 'returns c = rw (turned _ c.match.keys1)', f'returns c = let a = c.before.args in rw ({EARLIER})'),
-        (CLOSING, f'rw (not-turned _ c.before.match.rest.1, {EARLIER})', f'rw ({LAST}, turned _ c.match.keys1)'),
-        (CLOSING, f'rw (not-turned _ c.before.match.rest.1, {LAST})', f'rw ({LAST}, not-turned _ c.match.rest.1)'),
+        (CLOSING, 'rw (turned _ c.in-2.is)', f'let a = c.args in rw ({LAST}, turned _ c.in-2.is)'),
+        (CLOSING, f'rw ({OTHER_SCAN}, {EARLIER})', f'rw ({EARLIER})'),
+        (CLOSING, f'rw ({OTHER_SCAN}, {LAST})', f'rw ({LAST}, {OTHER_SCAN})'),
+        (CLOSING, 'returns-else-cut-cuts', 'returns-in_default'),
         (CLOSED, '(cond r 6 (cond a 2 4))', '(cond a 2 (cond r 6 4))'),
         (CLOSED, 'go true a e = omega arith', 'go true true e = omega arith\n    go true false e = omega arith'),
     ],
@@ -455,7 +457,7 @@ SLIPS = {
         ('crates/rules/src/angles.rt', '0xC000_0000', '0xC040_0000'),
         ('crates/rules/proofs/Four.antt', 'negsuc 1)', 'negsuc 2)'),
         ('crates/rules/proofs/Four.antt', '0x4000_0000', '0x4040_0000'),
-        ('crates/rules/proofs/angles/elevation_ok/Proof.antt', '0xC000_0000', '0xC040_0000'),
+        ('crates/rules/proofs/angles/elevation_ok/Answers.antt', '0xC000_0000', '0xC040_0000'),
         ('crates/old/proofs/Fine.antt', 'negsuc 1)', 'negsuc 2)'),
         ('crates/old/proofs/Fine.antt', '2 * down e', '3 * down e'),
     ],
@@ -469,7 +471,8 @@ SLIPS = {
     'cuts_to_255': [
         ('crates/rules/specs/States.antt', 'most_of_any = 256', 'most_of_any = 255'),
         ('crates/rules/src/states.rt', '2..=256 =>', '2..=255 =>'),
-        ('crates/rules/proofs/states/cut_number_breaks/Proof.antt', 'w32 1 256', 'w32 1 255'),
+        ('crates/rules/proofs/states/cut_number_breaks/Answers.antt', 'w32 1 256', 'w32 1 255'),
+        ('crates/rules/proofs/states/cut_number_breaks/Answers.antt', 'lt257', 'lt256'),
         ('crates/rules/proofs/Numbers.antt', 'most_cuts scan ≡ 256', 'most_cuts scan ≡ 255'),
         ('crates/rules/proofs/Numbers.antt', 'most_cuts scan < 257', 'most_cuts scan < 256'),
         ('crates/rules/proofs/Numbers.antt', '1 256 257', '1 255 256'),
@@ -518,7 +521,8 @@ SLIPS = {
     # an end of 36,000 let in (number 61; document 02, #114)
     'wedge_to_36000': [
         ('crates/wedge/src/lib.rt', '0..=35999 =>', '0..=36000 =>'),
-        ('crates/wedge/proofs/Wedge/ok/Proof.antt', '36000', '36001'),
+        ('crates/wedge/proofs/Wedge/ok/Answers.antt', '36000', '36001'),
+        ('crates/wedge/proofs/Wedge/ok/Answers.antt', '0-to-35999', '0-to-36000'),
         ('crates/wedge/specs/Wedge.antt', 'ltb w.start circle && ltb w.end circle', 'ltb w.start 36001 && ltb w.end 36001'),
     ],
     # a wedge of elevations (document 02, #114)
@@ -645,15 +649,13 @@ SLIPS = {
     'width_before_velocity': [
         *swapped(HEADERS, 'old_header + o.reflectivity\n', 'old_header + o.reflectivity + o.doppler\n'),
         *swapped(OLD_HEADERS, 'DATA + o.reflectivity as usize,', 'DATA + o.reflectivity as usize + o.doppler as usize,'),
-        ('crates/old/proofs/headers/place/Proof.antt', 'c.before.before.enum-told3', 'c.before.enum-told3'),
-        ('crates/old/proofs/headers/place/Proof.antt', 'c.before.enum-told2', 'c.before.before.enum-told2'),
     ],
     # 52 asked before 62 (document 02, #102)
     'counts_before_time': [
         *swapped(OLD, '62 (time_clauses o.day o.milliseconds)', '52 (counts_clauses o.reflectivity o.doppler)'),
         *swapped(OLD_RECORD, 'clock::time_breaks(self.day, self.milliseconds),\n            62,',
                  'counts_breaks(self.reflectivity, self.doppler),\n            52,'),
-        *swapped('crates/old/proofs/record/OldRadial/check/Proof.antt', '.time-breaks', '.counts-breaks'),
+        *swapped('crates/old/proofs/record/OldRadial/check/Answers.antt', 'c.time_breaks', 'c.counts_breaks'),
         *swapped('crates/old/proofs/Accepted.antt', '(rules-hold o ok).1.0', '(rules-hold o ok).1.1.0'),
         ('crates/shelf/proofs/Kept.antt', '(rules-hold o fine).1.0', '(rules-hold o fine).1.1.0'),
         ('crates/shelf/proofs/Growing.antt', '(rules-hold (old_at A at) e).1.1.0', '(rules-hold (old_at A at) e).1.0'),
