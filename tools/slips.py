@@ -79,7 +79,7 @@ MEETS_LAST = f'''        go : (l : Found) → {NONE_IN} ≡ l → (t : Bool) →
             record {{ before = suc r.before; then = r.then; here = r.here; there = r.there; second = rw r.second }}
         go Nowhere l true d q rest =
             let k = empties-twice i j b x y ∙ d in
-            record {{ before = 0; then = j; here = q; there = refl; second = rw (none-then bs xs ys l, k) }}
+            record {{ before = 0; then = j; here = q; there = refl; second = rw (none_then bs xs ys l, k) }}
         go Nowhere l false d q rest = absurd {NOT_ZERO}
 '''
 MEETS_ON = f'''        go : ({NONE_IN} ≡ There s → Meets s ss us) → Meets s (i ∷ ss) (j ∷ us)
@@ -87,12 +87,12 @@ MEETS_ON = f'''        go : ({NONE_IN} ≡ There s → Meets s ss us) → Meets 
             let r = rest e in
             record {{ before = suc r.before; then = r.then; here = r.here; there = r.there; second = r.second }}
 '''
-NONE_THEN = f'''    none-then : {{ss us : List Stretch}} (bs : List VolumeRadial) → Owned f ss bs → Owned g us (map (only_radial m) bs)
+NONE_THEN = f'''    none_then : {{ss us : List Stretch}} (bs : List VolumeRadial) → Owned f ss bs → Owned g us (map (only_radial m) bs)
         → {NONE_IN} ≡ Nowhere → first_empty w g us ≡ Nowhere
     unfolding first_empty or_else
-    none-then [] none none e = refl
-    none-then (b ∷ bs) (more {{s = i}} {{ss = ss}} x xs) (more {{s = j}} {{ss = us}} y ys) e =
-        go ({NONE_IN}) refl ({NONE_HERE}) refl (none-then bs xs ys)
+    none_then [] none none e = refl
+    none_then (b ∷ bs) (more {{s = i}} {{ss = ss}} x xs) (more {{s = j}} {{ss = us}} y ys) e =
+        go ({NONE_IN}) refl ({NONE_HERE}) refl (none_then bs xs ys)
       where
         go : (l : Found) → {NONE_IN} ≡ l → (t : Bool) → {NONE_HERE} ≡ t → ({NONE_IN} ≡ Nowhere → first_empty w g us ≡ Nowhere)
             → or_else (first_empty w g us) (cond (empties w (bytes_of g j)) (There j) Nowhere) ≡ Nowhere
@@ -411,6 +411,8 @@ SLIPS = {
     'other_types': [
         ('crates/gates/specs/Gates.antt', 'eqb t 14 || eqb t 15', 'eqb t 13 || eqb t 14'),
         ('crates/gates/src/lib.rt', '14 => false,\n        15 => false,', '13 => false,\n        14 => false,'),
+        ('crates/gates/proofs/is_measurement/Answers.antt', 'in-14', 'in-13'),
+        ('crates/gates/proofs/is_measurement/Answers.antt', 'in-15', 'in-14'),
         ('crates/gates/proofs/Gates.antt', 't 14', 't 13'),
         ('crates/gates/proofs/Gates.antt', '≡ 14', '≡ 13'),
         ('crates/gates/proofs/Gates.antt', 't 15', 't 14'),
