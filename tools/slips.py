@@ -429,6 +429,7 @@ SLIPS = {
     'two_in_layers': [
         ('crates/rules/specs/States.antt', 'cond (is 2 (int scan)) 1', 'cond (is 5 (int scan)) 1'),
         ('crates/rules/src/states.rt', '2 => 2,', '5 => 2,'),
+        ('crates/rules/proofs/states/cut_number_breaks/Answers.antt', 'in-2', 'in-5'),
         ('crates/rules/proofs/Numbers.antt', 'scan ≡ 2 → most_cuts', 'scan ≡ 5 → most_cuts'),
         ('crates/rules/proofs/Numbers.antt', '(scan ≡ 2 → ⊥) → most_cuts', '(scan ≡ 5 → ⊥) → most_cuts'),
         ('crates/rules/proofs/Numbers.antt', 'exactly w32 2 scan (lit< tt), eq-eqb scan 2 e', 'exactly w32 5 scan (lit< tt), eq-eqb scan 5 e'),
@@ -487,6 +488,9 @@ SLIPS = {
         ('crates/rules/specs/Ranges.antt', 'most_sequence = 65536', 'most_sequence = 65535'),
         ('crates/radial/src/lib.rt', '1..=65536 =>', '1..=65535 =>'),
         ('crates/radial/src/lib.rt', '65537..=', '65536..='),
+        ('crates/radial/proofs/sequence_breaks/Answers.antt', '1-to-65536', '1-to-65535'),
+        ('crates/radial/proofs/sequence_breaks/Answers.antt', '65537-to', '65536-to'),
+        ('crates/radial/proofs/sequence_breaks/Answers.antt', 'lt65537', 'lt65536'),
     ],
     # an index of 51 cuts in the old form (document 02, #106)
     'old_form_to_51': [
@@ -566,6 +570,7 @@ SLIPS = {
         ('crates/coming/specs/Radials.antt', '2 * (cuts - cut)', '1 * (cuts - cut)'),
         ('crates/coming/src/lib.rt', '65536 - 2 * later', '65536 - 1 * later'),
         ('crates/coming/src/lib.rt', 'if 32768 < later', 'if 65536 < later'),
+        ('crates/coming/proofs/radials_can_after/Answers.antt', 'gt32768', 'gt65536'),
         ('crates/coming/proofs/Radials.antt', '2 * (cuts - cut)', '1 * (cuts - cut)'),
         ('crates/coming/proofs/Radials.antt', '32768', '65536'),
     ],
@@ -574,6 +579,7 @@ SLIPS = {
         ('crates/coming/specs/Radials.antt', 'ltb in_cut most_radials', 'leb in_cut most_radials'),
         ('crates/coming/specs/Radials.antt', 'ltb number most_radials', 'leb number most_radials'),
         ('crates/coming/src/lib.rt', 'if number < 1000', 'if number <= 1000'),
+        ('crates/coming/proofs/radials_can_after/Answers.antt', 'number-lt1000', 'number-le1000'),
         ('crates/coming/proofs/Radials.antt', 'number < 1000 →', 'number ≤ 1000 →'),
         ('crates/coming/proofs/Radials.antt', 'rw (lt-ltb number 1000 l)', 'rw (le-leb number 1000 l)'),
         ('crates/coming/proofs/Radials.antt', 'full : 1000 ≤ number', 'full : 1000 < number'),
