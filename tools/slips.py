@@ -28,7 +28,7 @@ not-suc a b = dite (dec_lt b (a + 1)) (λ h. rw (lt-leb (a + 1) b h, le-leb b a 
 SAME_KINDS, ENOUGH_KINDS = 'eqb (length k) (length codes)', 'leb (length codes) (length k)'
 SAME_HUNDREDTHS, ENOUGH_HUNDREDTHS = 'eqb (length h) (length codes)', 'leb (length codes) (length h)'
 ONE_BYTE, TWO_BYTES = 'cond (bit sizes t) true (is 1 (short bin))', 'cond (bit sizes t) (is 2 (short bin)) true'
-CHECKED, COMPARE = (f'crates/decoded/proofs/{path}.antt' for path in ('Checked', 'compare/Proof'))
+CHECKED, COMPARE = (f'crates/decoded/proofs/{path}.antt' for path in ('Checked', 'compare/Answers'))
 OLD, CODES, HEADERS = (f'crates/old/specs/{name}.antt' for name in ('Old', 'Codes', 'Headers'))
 KEPT = 'crates/old/proofs/Kept.antt'
 OLD_RECORD, OLD_HEADERS = (f'crates/old/src/{name}.rt' for name in ('record', 'headers'))
@@ -154,10 +154,10 @@ OR_NONE = '''  or-none : (x : Found) → or_else x Nowhere ≡ x
 
 ENGINE, ENGINE_CODE = 'crates/engine/specs/Engine.antt', 'crates/engine/src/lib.rt'
 FILLING, MEANING, KIND, HUNDREDTHS, LIST_ANSWER = (
-    f'crates/engine/proofs/{path}.antt' for path in ('Filling', 'Meaning', 'kind/Proof', 'hundredths_of/Proof', 'answer/Proof'))
+    f'crates/engine/proofs/{path}.antt' for path in ('Filling', 'Meaning', 'kind/Answers', 'hundredths_of/Answers', 'answer/Answers'))
 FORMS, SAID, SAID_BACK, SAYS, FIND, RADIALS_AT = (
-    f'crates/index/{path}' for path in ('specs/Forms.antt', 'src/said.rt', 'proofs/Forms.antt', 'proofs/Says.antt', 'proofs/said/find/Proof.antt',
-                                        'proofs/said/radials_at/Proof.antt'))
+    f'crates/index/{path}' for path in ('specs/Forms.antt', 'src/said.rt', 'proofs/Forms.antt', 'proofs/Says.antt', 'proofs/said/find/Answers.antt',
+                                        'proofs/said/radials_at/Answers.antt'))
 BELOW = '''below : {a : Telling Values} {k : ℕ} {h : ℤ} → Stands a k h → k < 256
 below (its_own l) = omega arith
 below no-radial = lit< tt
@@ -180,32 +180,22 @@ below f NoMoment i = lit< tt
 below f (At s p) i = below_in _ _ i
 '''
 RADIALS_NEW = '''-- the new form
-returns : tie.Need-returns
+pub returns-then-cuts-eq0 : goal.returns-then-cuts-eq0
 unfolding radials_at cuts_said counts_at
+returns-then-cuts-eq0 c =
+    let x = c.args.index.now in
+    let e = eq-eqb (old_cuts x) 0 (sym c.old_cuts-cuts.ensures ∙ c.if-cuts-eq0.true) in
+    (rw (e, ← c.u16_at.ensures), omega arith)
+
+'''
+RADIALS_OLD = '''unfolding radials_at cuts_said counts_at
 returns c =
-    let x = c.before.before.before.before.args.index.now in
-    let e = eq-eqb (old_cuts x) 0 (sym c.before.before.old-cuts.ensures ∙ c.before.if1.taken) in
-    (rw (e, ← c.u16-at.ensures), omega arith)
-
+    let x = c.args.index.now in
+    let e = ne_eqb (old_cuts x) 0 (λ z. c.if-cuts-eq0.false (c.old_cuts-cuts.ensures ∙ z)) in
+    (rw (e, ← c.old_cuts-cuts.ensures), omega arith)
 '''
-RADIALS_OLD = '''returns-2 : tie.Need-returns-2
-unfolding radials_at cuts_said counts_at
-returns-2 c =
-    let x = c.before.before.before.args.index.now in
-    let e = ne_eqb (old_cuts x) 0 (λ z. c.if1.left (c.before.old-cuts.ensures ∙ z)) in
-    (rw (e, ← c.before.old-cuts.ensures), omega arith)
-
-pub radials-at-spec : {M : Type 1} → statement M
-radials-at-spec =
-    tie.close
-    (tie.spec (λ c κs. search rules) (λ c κs. search rules) (λ c. search rules) (λ c. search rules) (λ c. search rules) returns (λ c. search rules) (λ c. search rules) (λ c. search rules) returns-2)
-'''
-RADIALS_OLD_ALONE = '''returns : tie.Need-returns
-unfolding radials_at
-returns c = (rw (← c.old-cuts.ensures), omega arith)
-
-pub radials-at-spec : {M : Type 1} → statement M
-radials-at-spec = tie.close (tie.spec (λ c κs. search rules) (λ c. search rules) (λ c. search rules) (λ c. search rules) returns)
+RADIALS_OLD_ALONE = '''unfolding radials_at
+returns c = (rw (← c.old_cuts-cuts.ensures), omega arith)
 '''
 INDEX_FIRST = '    if !index::right(file, index) {\n        return ListAnswer::Refused(59);\n    }\n'
 NEITHER = '''  neither : (b : Bool) → (b && false) ≡ false
@@ -297,83 +287,21 @@ answer-spec =
     tie.close
     (tie.spec (λ c κs. search rules) returns returns-2 (λ c κs. search rules) returns-3 fill-requires (λ c. search rules) (λ c. search rules) returns-4)
 '''
-FIND_PROOF = '''returns : tie.Need-returns
+FIND_NONE = '''pub returns-then-sequence-eq0 : goal.returns-then-sequence-eq0
 unfolding place_said
-returns c = rw c.if1.taken
-
--- how many radials there are, as it was read
-number : (c : tie.After-u32-at) → let a = c.before.before.before.before.args in c.u32-at.result ≡ le 4 a.index.now (radials_at a.index.now)
-number c = c.u32-at.ensures ∙ ap (le 4 c.before.before.before.before.args.index.now) c.before.radials-at.ensures.0
-
-returns-2 : tie.Need-returns-2
-unfolding place_said
-returns-2 c =
-    let a = c.before.before.before.before.before.args in
-    let n = number c.before in
-    let h = c.if2.taken in
-    rw (lt-leb a.sequence (le 4 a.index.now (radials_at a.index.now)) (omega arith), le-leb 1 a.sequence (omega arith))
-
-add-u64-at : tie.Need-add-u64-at
-add-u64-at c = omega (arith, c.before.before.radials-at.ensures.1)
-
-add-u64-at-2 : tie.Need-add-u64-at-2
-add-u64-at-2 c = omega (arith, c.before.before.radials-at.ensures.1)
-
-returns-3 : tie.Need-returns-3
-unfolding place_said
-returns-3 c =
-    let a = c.before.before.before.before.before.before.args in
-    let n = number c.before.before in
-    let h = c.before.if2.left in
-    rw (le-leb a.sequence (le 4 a.index.now (radials_at a.index.now)) (omega arith), le-leb 1 a.sequence (omega arith), c.u64-at.ensures, c.before.before.before.radials-at.ensures.0)
-
-pub find_spec : {M : Type 1} → statement M
-find_spec =
-    tie.close
-    (tie.spec returns (λ c κs. search rules) (λ c κs. search rules) (λ c. search rules) returns-2 add-u64-at (λ c. search rules) (λ c. search rules) add-u64-at-2 (λ c κs. search rules) returns-3)
+returns-then-sequence-eq0 c = rw c.if-sequence-eq0.true
 '''
-FIND_ZERO = '''-- how many radials there are, as it was read
-number : (c : tie.After-u32-at) → let a = c.before.before.before.args in c.u32-at.result ≡ le 4 a.index.now (radials_at a.index.now)
-number c = c.u32-at.ensures ∙ ap (le 4 c.before.before.before.args.index.now) c.before.radials-at.ensures.0
+FIND_FIRST = '''number-3 : (c : goal.After-u64_at) → let a = c.args in c.u32_at.result ≡ le 4 a.index.now (radials_at a.index.now)
+number-3 c = c.u32_at.ensures ∙ ap (le 4 c.args.index.now) c.radials_at-at.ensures.0
 
-returns : tie.Need-returns
+pub returns-then-sequence-eq0 : goal.returns-then-sequence-eq0
 unfolding place_said
-returns c =
-    let a = c.before.before.before.before.args in
-    let n = number c.before in
-    let h = c.if1.taken in
-    rw (lt-leb a.sequence (le 4 a.index.now (radials_at a.index.now)) (omega arith))
-
-add-u64-at : tie.Need-add-u64-at
-add-u64-at c = omega (arith, c.before.before.before.radials-at.ensures.1)
-
-returns-2 : tie.Need-returns-2
-unfolding place_said
-returns-2 c =
-    let a = c.before.before.before.before.before.before.args in
-    let n = number c.before.before.before in
-    let z = c.before.if2.taken in
+returns-then-sequence-eq0 c =
+    let a = c.args in
+    let n = number-3 c in
+    let z = c.if-sequence-eq0.true in
     let e : radials_at a.index.now + 4 ≡ radials_at a.index.now + 4 + 8 * (a.sequence - 1) = omega arith in
-    rw (le-leb a.sequence (le 4 a.index.now (radials_at a.index.now)) (omega arith), ← e, c.u64-at.ensures, c.before.before.before.before.radials-at.ensures.0)
-
-add-u64-at-2 : tie.Need-add-u64-at-2
-add-u64-at-2 c = omega (arith, c.before.before.before.radials-at.ensures.1)
-
-add-u64-at-3 : tie.Need-add-u64-at-3
-add-u64-at-3 c = omega (arith, c.before.before.before.radials-at.ensures.1)
-
-returns-3 : tie.Need-returns-3
-unfolding place_said
-returns-3 c =
-    let a = c.before.before.before.before.before.before.args in
-    let n = number c.before.before.before in
-    let h = c.before.before.if1.left in
-    rw (le-leb a.sequence (le 4 a.index.now (radials_at a.index.now)) (omega arith), c.u64-at2.ensures, c.before.before.before.before.radials-at.ensures.0)
-
-pub find_spec : {M : Type 1} → statement M
-find_spec =
-    tie.close
-    (tie.spec (λ c κs. search rules) (λ c κs. search rules) (λ c. search rules) returns add-u64-at (λ c κs. search rules) returns-2 add-u64-at-2 (λ c. search rules) (λ c. search rules) add-u64-at-3 (λ c κs. search rules) returns-3)
+    rw (le-leb a.sequence (le 4 a.index.now (radials_at a.index.now)) (omega arith), ← e, c.u64_at.ensures, c.radials_at-at.ensures.0)
 '''
 ZERO_NOWHERE = '    if sequence == 0 {\n        return Place::Nowhere;\n    }\n'
 ZERO_FIRST = '    if sequence == 0 {\n        return Place::At(le::u64_at(index, at + 4) as usize);\n    }\n'
@@ -394,7 +322,7 @@ SLIPS = {
         ('crates/writer/proofs/Again.antt', OWN, FIRST),
         ('crates/writer/proofs/EachKind.antt', OWN, FIRST),
         ('crates/writer/proofs/Places.antt', OWN, FIRST),
-        ('crates/writer/proofs/on/radial_on/Proof.antt', OWN, FIRST),
+        ('crates/writer/proofs/on/radial_on/Answers.antt', OWN, FIRST),
         ('crates/shelf/src/settle.rt', OWN_CUT, FIRST_CUT),
         ('crates/shelf/proofs/settle/settle_radial/Proof.antt', OWN, FIRST),
         ('crates/shelf/proofs/Over.antt', OWN, FIRST),
@@ -496,6 +424,7 @@ SLIPS = {
     'old_form_to_51': [
         ('crates/index/specs/Index.antt', 'most_old = 50', 'most_old = 51'),
         ('crates/index/src/making.rt', '0..=50 => true', '0..=51 => true'),
+        ('crates/index/proofs/making/old_form/Answers.antt', '0-to-50', '0-to-51'),
     ],
     # the two bytes of the number of cuts swapped in the new form (document 02, #106)
     'cuts_swapped': [
@@ -543,6 +472,7 @@ SLIPS = {
         ('crates/ask/specs/Tallies.antt', '(radial_at b 0).spot_blank 1)', '(radial_at b 0).spot_blank 0)'),
         ('crates/ask/src/tallies.rt', 'spot_blank 1)', 'spot_blank 0)'),
         ('crates/ask/src/tallies.rt', 'Radial::SPOT_BLANK) == 1', 'Radial::SPOT_BLANK) == 0'),
+        ('crates/ask/proofs/tallies/blank/Answers.antt', 'u32_at-eq1', 'u32_at-eq0'),
         ('crates/ask/proofs/Tallying.antt', 'spot_blank 1)', 'spot_blank 0)'),
     ],
     # hope of a cut by its size mask (document 02, #110)
@@ -604,8 +534,10 @@ SLIPS = {
         (CHECKED, 'use borrow.Author.Tests.{eq-eqb, eqb-true}', 'use borrow.Author.Tests.{eq-eqb, eqb-true, le-leb, leb-true}'),
         (CHECKED, 'use lib.Dec.{eqb}', 'use lib.Dec.{eqb, leb}'),
         (CHECKED, 'use Prim.Native.Nat.{ℕ}', 'use Prim.Native.Nat.{ℕ, ◌≤◌}'),
-        (COMPARE, 'c.if3.left (let h = e.hundredths in omega arith)', 'let h = e.hundredths in let l = c.if3.left in omega arith'),
-        (COMPARE, 'c.if2.left (let k = e.kinds in omega arith)', 'let k = e.kinds in let l = c.if2.left in omega arith'),
+        (COMPARE, 'hundredths-n', 'n-hundredths'),
+        (COMPARE, 'kinds-n', 'n-kinds'),
+        (COMPARE, 'c.if-n-hundredths.false (let h = e.hundredths in omega arith)', 'let h = e.hundredths in let l = c.if-n-hundredths.false in omega arith'),
+        (COMPARE, 'c.if-n-kinds.false (let k = e.kinds in omega arith)', 'let k = e.kinds in let l = c.if-n-kinds.false in omega arith'),
     ],
     # 31 for a radial that is not there (document 02, #112)
     'thirty_one_for_thirty': [
@@ -899,8 +831,6 @@ SLIPS = {
     'refused_as_unknown': [
         (ENGINE, 'kind_shown (refused number place) = number', 'kind_shown (refused number place) = 3'),
         (ENGINE_CODE, 'GateAnswer::Refused(number) => (number % 256) as u8', 'GateAnswer::Refused(_) => 3'),
-        (KIND, 'c.before.answer2.given.1', 'c.enum_told.given.1'),
-        (KIND, '(λ c. search rules) (λ c. search rules) returns', '(λ c. search rules) returns'),
         (FILLING, BELOW, BELOW_BY_ITSELF),
         (FILLING, 'below (stands-asked f n t i)', 'below f (where_is f n t) i'),
     ],
@@ -909,9 +839,8 @@ SLIPS = {
         (ENGINE, 'hundredths_shown (refused number place) = pos 0', 'hundredths_shown (refused number place) = pos (number % 256)'),
         (ENGINE, '{ℕ, Bool', '{ℕ, ◌%◌, Bool'),
         (ENGINE_CODE, 'GateAnswer::Refused(_) => 0', 'GateAnswer::Refused(number) => (number % 256) as i32'),
-        (HUNDREDTHS, 'returns-2 c = rw c.enum_told.given.1', 'returns-2 c = rw c.before.answer2.given.1 (to_z_pos w32 (omega arith))'),
-        (HUNDREDTHS, '(λ c. search rules) (λ c. search rules) returns', '(λ c. search rules) (λ c. search rules) (λ c. search rules) returns'),
-        (HUNDREDTHS, 'use mir.Facts.{to_z-of_z}', 'use native.Mathlib.Omega.{arith}\nuse mir.Syntax.{w32}\nuse mir.Facts.{to_z-of_z, to_z_pos}'),
+        (HUNDREDTHS, 'rw c.in-Refused.is', 'rw c.in-Refused.is (to_z_pos w32 (omega arith))'),
+        (HUNDREDTHS, 'use mir.Facts.{to_z-of_z}', 'use native.Mathlib.Omega.{arith}\nuse mir.Facts.{to_z-of_z, to_z_pos}'),
         (FILLING, BELOW, BELOW_BY_ITSELF),
         (FILLING, 'below (stands-asked f n t i)', 'below f (where_is f n t) i'),
     ],
@@ -919,7 +848,6 @@ SLIPS = {
     'next_place': [
         (FORMS, '8 * (n - 1)', '8 * n'),
         (SAID, '8 * (sequence - 1)', '8 * sequence'),
-        (FIND, 'add-u64-at (λ c. search rules) (λ c. search rules) add', 'add-u64-at (λ c. search rules) add'),
         (SAYS, 'cond (leb 1 n && leb n m) (At (le 8 x (at + 8 * (n - 1))))', 'cond (leb 1 n && leb n m) (At (le 8 x (at + 8 * n)))'),
         (SAYS, 'rw (le-leb 1 (suc m) (omega arith), add-zero at)', 'rw (le-leb 1 (suc m) (omega arith))'),
         (SAYS, 'at + 8 * (suc (suc n) - 1) ≡ at + 8 + 8 * (suc n - 1)', 'at + 8 * suc (suc n) ≡ at + 8 + 8 * suc n'),
@@ -942,7 +870,9 @@ SLIPS = {
         (FORMS, 'cond (leb 1 n && leb n (le 4 x (radials_at x)))', 'cond (leb n (le 4 x (radials_at x)))'),
         (SAID, ZERO_NOWHERE, ''),
         (SAID, '    Place::At(le::u64_at(index, at + 4 + 8', ZERO_FIRST + '    Place::At(le::u64_at(index, at + 4 + 8'),
-        (FIND, FIND_PROOF, FIND_ZERO),
+        (FIND, 'u64_at', 'u64_at-2'),
+        (FIND, FIND_NONE, FIND_FIRST),
+        (FIND, ', le-leb 1 a.sequence (omega arith)', ''),
         (FIND, 'use native.Mathlib.Omega', 'use Prim.Native.Nat.{◌+◌, ◌-◌, ◌*◌}\nuse native.Mathlib.Omega'),
         (SAYS, 'cond (leb 1 n && leb n m)', 'cond (leb n m)'),
         (SAYS, 'rw (leb-suc-zero n, le-leb 1 (suc n) (omega arith))', 'rw (leb-suc-zero n)'),
