@@ -214,78 +214,22 @@ LIST_59_LAST = '''    go false q true s =
         let here : answered m ≡ refused 33 0 = sym e ∙ rw (q, s) at p.answer in
         absurd (let z : ◌≡◌ {A = ℕ} 0 1 = cc in omega arith)
 '''
-RIGHT_FIRST = '''returns : tie.Need-returns
-returns c = not_right _ _ _ _ _ (sym c.before.right.ensures ∙ not-true c.before.right.result c.if1.taken)
+RIGHT_KINDS = '''-- the index is right, and how many questions there are
+right : (c : goal.Then-kinds-n) → let a = c.args in right_for a.file.now a.index.now ≡ true
+right c = sym c.right.ensures ∙ c.if-not-right.false
 
--- the index is right, and how many questions there are
-right : (c : tie.After-shortest) → let a = c.before.before.before.before.before.before.before.before.before.args in right_for a.file.now a.index.now ≡ true
-right c = sym c.before.before.right.ensures ∙ not-false c.before.before.right.result c.before.if1.left
-
-many : (c : tie.After-shortest) → let a = c.before.before.before.before.before.before.before.before.before.args in c.shortest.result ≡ length (asked a.radials.now a.types.now a.gates.now)
-many c = c.shortest.ensures ∙ sym (many-asked _ _ _)
-
-returns-2 : tie.Need-returns-2
-returns-2 c = let n = many c.before in let h = c.if2.taken in short-kinds _ _ _ _ _ (right c.before) (omega arith)
-
-returns-3 : tie.Need-returns-3
-returns-3 c = let n = many c.before.before in let l = c.before.if2.left in let h = c.if3.taken in short-hundredths _ _ _ _ _ (right c.before.before) (omega arith) (omega arith)
-
-fill-requires : tie.Need-fill-requires
-fill-requires c κs =
-    let s = c.before.before.before.before in
-    let l = c.before.before.before.if2.left in
-    let h = c.before.before.if3.left in
-    (right s, (s.shortest.ensures, (omega arith, omega arith)))
-
-returns-4 : tie.Need-returns-4
-returns-4 c =
-    let s = c.before.before.before.before.before.before.before.before in
-    let n = many s in
-    let l = c.before.before.before.before.before.before.before.if2.left in
-    let h = c.before.before.before.before.before.before.if3.left in
-    let e = c.before.before.before.fill.ensures in
-    all-filled _ _ _ _ _ (right s) n (omega arith) (omega arith) e.0 e.1
-
-pub answer-spec : {M : Type 1} → statement M
-answer-spec =
-    tie.close
-    (tie.spec (λ c κs. search rules) returns (λ c κs. search rules) returns-2 returns-3 fill-requires (λ c. search rules) (λ c. search rules) returns-4)
 '''
-RIGHT_LAST = '''many : (c : tie.After-shortest) → let a = c.before.before.before.before.before.before.before.args in c.shortest.result ≡ length (asked a.radials.now a.types.now a.gates.now)
-many c = c.shortest.ensures ∙ sym (many-asked _ _ _)
+RIGHT_HUNDREDTHS = '''right-2 : (c : goal.Then-hundredths-n) → let a = c.args in right_for a.file.now a.index.now ≡ true
+right-2 c = sym c.right.ensures ∙ c.if-not-right.false
 
-returns : tie.Need-returns
-returns c = let n = many c.before in let h = c.if1.taken in short-kinds _ _ _ _ _ (omega arith)
-
-returns-2 : tie.Need-returns-2
-returns-2 c = let n = many c.before.before in let l = c.before.if1.left in let h = c.if2.taken in short-hundredths _ _ _ _ _ (omega arith) (omega arith)
-
-returns-3 : tie.Need-returns-3
-returns-3 c =
-    let n = many c.before.before.before.before in
-    let l = c.before.before.before.if1.left in
-    let h = c.before.before.if2.left in
-    not_right _ _ _ _ _ (sym c.before.right.ensures ∙ not-true c.before.right.result c.if3.taken) (omega arith) (omega arith)
-
-fill-requires : tie.Need-fill-requires
-fill-requires c κs =
-    let s = c.before.before.before.before.before.before in
-    let l = c.before.before.before.before.before.if1.left in
-    let h = c.before.before.before.before.if2.left in
-    ((sym c.before.before.before.right.ensures ∙ not-false c.before.before.before.right.result c.before.before.if3.left), (s.shortest.ensures, (omega arith, omega arith)))
-
-returns-4 : tie.Need-returns-4
-returns-4 c =
-    let n = many c.before.before.before.before.before.before.before.before.before.before in
-    let l = c.before.before.before.before.before.before.before.before.before.if1.left in
-    let h = c.before.before.before.before.before.before.before.before.if2.left in
-    let e = c.before.before.before.fill.ensures in
-    all-filled _ _ _ _ _ (sym c.before.before.before.before.before.before.before.right.ensures ∙ not-false c.before.before.before.before.before.before.before.right.result c.before.before.before.before.before.before.if3.left) n (omega arith) (omega arith) e.0 e.1
-
-pub answer-spec : {M : Type 1} → statement M
-answer-spec =
-    tie.close
-    (tie.spec (λ c κs. search rules) returns returns-2 (λ c κs. search rules) returns-3 fill-requires (λ c. search rules) (λ c. search rules) returns-4)
+'''
+NOT_RIGHT = 'returns-then-not-right c = not_right _ _ _ _ _ (sym c.right.ensures ∙ c.if-not-right.true)\n'
+NOT_RIGHT_LAST = '''returns-then-not-right c =
+    let a = c.args in
+    let n : c.shortest-n.result ≡ length (asked a.radials.now a.types.now a.gates.now) = c.shortest-n.ensures ∙ sym (many-asked _ _ _) in
+    let l = c.if-kinds-n.false in
+    let h = c.if-hundredths-n.false in
+    not_right _ _ _ _ _ (sym c.right.ensures ∙ c.if-not-right.true) (omega arith) (omega arith)
 '''
 FIND_NONE = '''pub returns-then-sequence-eq0 : goal.returns-then-sequence-eq0
 unfolding place_said
@@ -898,7 +842,11 @@ SLIPS = {
         (FILLING, 'short-hundredths r m l = no_room r', 'short-hundredths m l = no_room'),
         (FILLING, 'Bool.{Bool, true, false}', 'Bool.{Bool, true, false, ◌&&◌}'),
         (MEANING, LIST_59, LIST_59_LAST),
-        (LIST_ANSWER, RIGHT_FIRST, RIGHT_LAST),
+        (LIST_ANSWER, NOT_RIGHT, NOT_RIGHT_LAST),
+        (LIST_ANSWER, RIGHT_KINDS, ''),
+        (LIST_ANSWER, RIGHT_HUNDREDTHS, ''),
+        (LIST_ANSWER, ' (right c)', ''),
+        (LIST_ANSWER, ' (right-2 c)', ''),
     ],
 }
 
