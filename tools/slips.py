@@ -36,15 +36,15 @@ BROKEN, AT, AT_END = 'answer = Refused c.number ', 'at;', 'before.walk.at;'
 MENDED, LAY, REPORT = 'crates/mend/specs/Mend.antt', 'crates/mend/src/lay.rt', 'crates/mend/src/report.rt'
 KEEPING, PIECES, CLOSED, VIEW, MEND_BYTES, PAIRED, WHOLE, REPORTS, GROWING, KEPT_OF, LAST_STATE, LAID = (
     f'crates/mend/proofs/{path}.antt' for path in ('Keeping', 'Pieces', 'Closed', 'View', 'Bytes', 'Paired', 'Whole', 'Reports', 'Growing',
-                                                   'keep/kept_of/Proof', 'lay/last_state/Proof', 'lay/lay/Proof'))
+                                                   'keep/kept_of/Answers', 'lay/last_state/Answers', 'lay/lay/Answers'))
 NEWEST_IF = '\n    ∙ ap (λ (b : Bool). cond b (There s) a.before) '
 KEPT_IF = ' ∙ ap (λ (x : Bool). cond x (ss ++ (l ∷ [])) ss) '
 KEPT_CUT, OWN_CUTS = 'behind_cut s.cut', 'behind_cut (cut_number f)'
 PICKED, WANTED = 'crates/pick/specs/Pick.antt', 'crates/pick/specs/Keep.antt'
 PICK_KEEP, PICK_LAY, PICK_PLAN = (f'crates/pick/src/{name}.rt' for name in ('keep', 'lay', 'plan'))
 WANTING, LAYING, TURNS, PLANNING, PLANS, EMPTY, PICK_BYTES, PICK_AGAIN, PICK_FIRST, LAY_CUT = (
-    f'crates/pick/proofs/{path}.antt' for path in ('Keeping', 'Laying', 'Turns', 'Planning', 'Plans', 'plan/first_empty/Proof', 'Bytes', 'Again', 'First',
-                                                   'lay/lay_cut/Proof'))
+    f'crates/pick/proofs/{path}.antt' for path in ('Keeping', 'Laying', 'Turns', 'Planning', 'Plans', 'plan/first_empty/Answers', 'Bytes', 'Again', 'First',
+                                                   'lay/lay_cut/Answers'))
 OWN_MASK, MASK_THERE, MASK = 'bit_and (le 8 b 84) wanted', 'bit_and (le 8 f (at + 84)) wanted', 'bit_and m wanted'
 OR_ELSE = '''-- what was found, or else something
 unfoldable pub or_else : Found → Found → Found
@@ -54,11 +54,11 @@ or_else (There s) other = There s
 '''
 THIS_EMPTY, FIRST_EMPTY = (f'cond (empties wanted (bytes_of f s)) (There s) {rest}' for rest in ('Nowhere', '(first_empty wanted f ss)'))
 FOUND = 'ap (λ (x : Found). or_else x (cond (eqb a.moments 0) (There a.s) Nowhere)) '
-RETURNS_FOUND = f'''returns-2 : tie.Need-returns-2
+RETURNS_FOUND = f'''pub returns-in-There : goal.returns-in-There
 unfolding or_else
-returns-2 c =
-    let a = c.before.before.args in
-    let e = c.enum_told.given.1 in
+returns-in-There c =
+    let a = c.args in
+    let e = c.in-There.is in
     e ∙ sym ({FOUND}e)
 
 '''
@@ -268,7 +268,7 @@ SLIPS = {
         ('crates/writer/proofs/Places.antt', OWN, FIRST),
         ('crates/writer/proofs/on/radial_on/Answers.antt', OWN, FIRST),
         ('crates/shelf/src/settle.rt', OWN_CUT, FIRST_CUT),
-        ('crates/shelf/proofs/settle/settle_radial/Proof.antt', OWN, FIRST),
+        ('crates/shelf/proofs/settle/settle_radial/Answers.antt', OWN, FIRST),
         ('crates/shelf/proofs/Over.antt', OWN, FIRST),
         ('crates/shelf/proofs/Over.antt', 'let k = 256 * (w.count.cut - 1) in', 'let k : ℕ = 0 in'),
     ],
@@ -516,7 +516,7 @@ SLIPS = {
         ('crates/citing/src/refusals.rt', 'named(Due::Radial, whole, 0, start)', 'named(Due::Radial, whole, 0, at)'),
         ('crates/citing/src/refusals.rt', 'four(file, w.present.start)', 'four(file, at)'),
         ('crates/citing/proofs/Whys.antt', 'f w).place ≡ w.present.start', 'f w).place ≡ w.at'),
-        ('crates/citing/proofs/refusals/file/Proof.antt', 'let q : w.present.start ≡', 'let q : w.at ≡'),
+        ('crates/citing/proofs/refusals/file/Answers.antt', 'let q : w.present.start ≡', 'let q : w.at ≡'),
     ],
     # the types seen not cleared at a new radial (number 20)
     'seen_not_cleared': [
@@ -543,7 +543,7 @@ SLIPS = {
         *swapped('crates/old/proofs/Accepted.antt', '(rules-hold o ok).1.0', '(rules-hold o ok).1.1.0'),
         ('crates/shelf/proofs/Kept.antt', '(rules-hold o fine).1.0', '(rules-hold o fine).1.1.0'),
         ('crates/shelf/proofs/Growing.antt', '(rules-hold (old_at A at) e).1.1.0', '(rules-hold (old_at A at) e).1.0'),
-        ('crates/shelf/proofs/lay/lay_over/Proof.antt', '∙ t))).1.1.0', '∙ t))).1.0'),
+        ('crates/shelf/proofs/lay/lay_over/Answers.antt', '∙ t))).1.1.0', '∙ t))).1.0'),
         *swapped('crates/shelf/proofs/Ordering.antt', 'in-time o h.time', 'well-counted o h.counts'),
     ],
     # an old radial's own number told at the end of the new volume (document 02, #102)
@@ -551,7 +551,7 @@ SLIPS = {
         ('crates/shelf/specs/Import.antt', BROKEN + AT, BROKEN + AT_END),
         ('crates/shelf/specs/Settled.antt', BROKEN + AT, BROKEN + AT_END),
         ('crates/shelf/src/settle.rt', 'refused(c.number, at, w)', 'refused(c.number, w.at, w)'),
-        ('crates/shelf/proofs/settle/settle_over/Proof.antt', 'Refused b.number at;', 'Refused b.number p.walk.at;'),
+        ('crates/shelf/proofs/settle/settle_over/Answers.antt', 'Refused b.number at;', 'Refused b.number p.walk.at;'),
         ('crates/shelf/proofs/Over.antt', 'Refused b.number at ≡ Taken', 'Refused b.number o.walk.at ≡ Taken'),
     ],
     # codes raised by 4, with the offsets (document 02, #102): every value is kept
@@ -591,8 +591,8 @@ SLIPS = {
         ('crates/mend/specs/Kept.antt', 'cond (eqb s.cut before) (s ∷ []) []', 's ∷ []'),
         ('crates/mend/specs/Kept.antt', 'cond (eqb s.cut (cut_of before)) (There s) before', 'There s'),
         ('crates/mend/src/keep.rt', 'return newest;\n    }\n    before', 'return newest;\n    }\n    newest'),
-        (KEPT_OF, f'{NEWEST_IF}(eq-eqb s.cut (cut_of a.before) (c.if1.taken ∙ c.before.before.cut_of.ensures))', ''),
-        (KEPT_OF, f'{NEWEST_IF}(ne_eqb s.cut (cut_of a.before) (λ e. c.if1.left (e ∙ sym c.before.before.cut_of.ensures)))', ''),
+        (KEPT_OF, f'{NEWEST_IF}(eq-eqb s.cut (cut_of a.before) (c.if-s-cut_of.true ∙ c.cut_of.ensures))', ''),
+        (KEPT_OF, f'{NEWEST_IF}(ne_eqb s.cut (cut_of a.before) (λ e. c.if-s-cut_of.false (e ∙ sym c.cut_of.ensures)))', ''),
         (KEEPING, 'from_one before s [] = go (eqb s.cut (cut_of before))', 'from_one before s [] = refl'),
         (KEEPING, '≡ cond (eqb l.cut (last_cut b ss)) (ss ++ (l ∷ [])) ss', '≡ ss ++ (l ∷ [])'),
         (KEEPING, 'kept-join b ss l [] ∙ go (eqb l.cut (last_cut b ss))', 'kept-join b ss l []'),
@@ -605,12 +605,9 @@ SLIPS = {
     'closed_as_in_the_file': [
         (MENDED, 'closing (task_block f).scan_type s.cut s.cut', 'closing (task_block f).scan_type (cut_number f) s.cut'),
         (LAY, 'SCAN_TYPE), cut, cut)', 'SCAN_TYPE), cut_number(file), cut)'),
-        (LAST_STATE, 'c.before.before.before.args', 'c.before.before.before.before.args'),
-        (LAST_STATE, 'ap (λ (scan : ℕ). closing scan s.cut s.cut) (c.before.u32-at',
-         'ap₂ (λ (scan cuts : ℕ). closing scan cuts s.cut) (c.before.before.u32-at'),
-        (LAST_STATE, '164 (omega arith)))', '164 (omega arith))) c.before.cut-number.ensures'),
+        (LAST_STATE, 'ap (λ (scan : ℕ). closing scan s.cut s.cut)', 'ap₂ (λ (scan cuts : ℕ). closing scan cuts s.cut)'),
+        (LAST_STATE, '164 (omega arith)))', '164 (omega arith))) c.cut_number.ensures'),
         (LAST_STATE, '{sym, ap, ◌∙◌}', '{sym, ap₂, ◌∙◌}'),
-        (LAST_STATE, 'tie.spec (λ c κs. search rules)', 'tie.spec (λ c κs. search rules) (λ c κs. search rules)'),
         (VIEW, '(cuts_of b) (cuts_of b)', 'b.task.cut_number (cuts_of b)'),
         (CLOSED, 'closing-small scan k k', 'closing-small scan b.task.cut_number k'),
         (MEND_BYTES, 'closing t.scan_type k k', 'closing t.scan_type t.cut_number k'),
@@ -629,10 +626,7 @@ SLIPS = {
         (MENDED, KEPT_CUT, OWN_CUTS),
         (LAY, '- behind_cut s.cut }', '- behind_cut (cut_number file.now) }'),
         (LAY, 'behind_cut(s.cut)', 'behind_cut(cut_number(file))'),
-        (LAID, 'let l = c', 'let l = c.before'),
-        (LAID, 'let start = c', 'let start = c.before'),
-        (LAID, 'front.behind-cut.ensures', '(front.behind-cut.ensures ∙ ap (λ (n : ℕ). behind_cut n) front.before.cut-number.ensures)'),
-        (LAID, '(tie.spec\n    (λ c κs. search rules)', '(tie.spec\n    (λ c κs. search rules) (λ c κs. search rules)'),
+        (LAID, 'c.behind_cut-front.ensures', '(c.behind_cut-front.ensures ∙ ap (λ (n : ℕ). behind_cut n) c.cut_number.ensures)'),
         (PIECES, KEPT_CUT, OWN_CUTS),
         (REPORTS, KEPT_CUT, OWN_CUTS),
         ('crates/mend/proofs/Making.antt', KEPT_CUT, OWN_CUTS),
@@ -653,7 +647,7 @@ SLIPS = {
     'dropped_from_the_last_kept': [
         (MENDED, 'from = s.end', 'from = s.start'),
         (REPORT, 'from: s.end', 'from: s.start'),
-        ('crates/mend/proofs/report/report_of/Proof.antt', 'from = s.end', 'from = s.start'),
+        ('crates/mend/proofs/report/report_of/Answers.antt', 'from = s.end', 'from = s.start'),
     ],
     # bit t for type t, in the choice of the moments and in the cuts' masks (document 02, #111)
     'wanted_by_bit_t': [
@@ -665,8 +659,8 @@ SLIPS = {
         (PICK_KEEP, 'bit(wanted,', 'bit(wanted / 2,'),
         (PICK_KEEP, '{◌≡◌, ◌-◌, ', '{◌≡◌, ◌-◌, ◌/◌, '),
         (PICK_LAY, '& wanted', '& (wanted / 2)'),
-        ('crates/pick/proofs/keep/wants/Proof.antt', 'bit a.wanted', 'bit (a.wanted / 2)'),
-        ('crates/pick/proofs/keep/wants/Proof.antt', 'use borrow.Author.Rules', 'use Prim.Native.Nat.{◌/◌}\nuse borrow.Author.Rules'),
+        ('crates/pick/proofs/keep/wants/Answers.antt', 'bit a.wanted', 'bit (a.wanted / 2)'),
+        ('crates/pick/proofs/keep/wants/Answers.antt', 'use borrow.Author.Rules', 'use Prim.Native.Nat.{◌/◌}\nuse borrow.Author.Rules'),
         (WANTING, 'bit wanted', 'bit (wanted / 2)'),
         (WANTING, '◌+◌, ◌-◌', '◌+◌, ◌-◌, ◌/◌'),
         (LAYING, OWN_MASK, 'bit_and (le 8 b 84) (wanted / 2)'),
@@ -693,7 +687,7 @@ SLIPS = {
         (WANTED, 'kept_bytes wanted b) 36', 'kept_bytes wanted b) 40'),
         (PICK_LAY, 'to + Radial::LENGTH_OF_DATA', 'to + Radial::MOMENT_NUMBER'),
         (LAYING, '36', '40'),
-        ('crates/pick/proofs/lay/lay_radial/Proof.antt', '.to + 36', '.to + 40'),
+        ('crates/pick/proofs/lay/lay_radial/Answers.antt', '.to + 36', '.to + 40'),
     ],
     # a kept moment's data without its header (document 02, #111)
     'data_without_header': [
@@ -718,12 +712,9 @@ SLIPS = {
         (PICK_PLAN, 'or_else found (cond (eqb moments 0) (There s) Nowhere)', 'cond (eqb moments 0) (There s) found'),
         (PICK_PLAN, '    match found {\n        Found::There(_) => found,\n        Found::Nowhere => {\n', '    {\n        {\n'),
         (EMPTY, RETURNS_FOUND, ''),
-        (EMPTY, f'({FOUND}c.before.enum-told2.given.1\n    ∙ ', '('),
-        (EMPTY, f'    let e = c.before.enum-told2.given.1 in\n    e\n    ∙ sym ({FOUND}e\n    ∙ ', '    sym ('),
-        (EMPTY, 'c.before.before.before.args', 'c.before.args'),
+        (EMPTY, f'sym ({FOUND}c.in-Nowhere.is\n    ∙ ', 'sym ('),
+        (EMPTY, f'    let e = c.in-Nowhere.is in\n    e\n    ∙ sym ({FOUND}e\n    ∙ ', '    sym ('),
         (EMPTY, '(There a.s) Nowhere', '(There a.s) a.found'),
-        (EMPTY, '(λ c. search rules) (λ c. search rules) returns returns-2', 'returns'),
-        (EMPTY, 'returns-3', 'returns-2'),
         (PLANNING, 'or_else empty (first_empty wanted f (trace (fuel f) f w))', 'or_else (first_empty wanted f (trace (fuel f) f w)) empty'),
         (PLANNING, 'or_else empty (first_empty wanted f (s ∷ ss))', 'or_else (first_empty wanted f (s ∷ ss)) empty'),
         (PLANNING, '  pub planned-none', OR_NONE + '  pub planned-none'),
