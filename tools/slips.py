@@ -660,7 +660,7 @@ SLIPS = {
         (PICK_KEEP, '{◌≡◌, ◌-◌, ', '{◌≡◌, ◌-◌, ◌/◌, '),
         (PICK_LAY, '& wanted', '& (wanted / 2)'),
         ('crates/pick/proofs/keep/wants/Answers.antt', 'bit a.wanted', 'bit (a.wanted / 2)'),
-        ('crates/pick/proofs/keep/wants/Answers.antt', 'use borrow.Author.Rules', 'use Prim.Native.Nat.{◌/◌}\nuse borrow.Author.Rules'),
+        ('crates/pick/proofs/keep/wants/Answers.antt', 'use Rattle.rules.specs.Masks', 'use Prim.Native.Nat.{◌/◌}\nuse Rattle.rules.specs.Masks'),
         (WANTING, 'bit wanted', 'bit (wanted / 2)'),
         (WANTING, '◌+◌, ◌-◌', '◌+◌, ◌-◌, ◌/◌'),
         (LAYING, OWN_MASK, 'bit_and (le 8 b 84) (wanted / 2)'),
