@@ -715,6 +715,7 @@ SLIPS = {
         (EMPTY, f'sym ({FOUND}c.in-Nowhere.is\n    ∙ ', 'sym ('),
         (EMPTY, f'    let e = c.in-Nowhere.is in\n    e\n    ∙ sym ({FOUND}e\n    ∙ ', '    sym ('),
         (EMPTY, '(There a.s) Nowhere', '(There a.s) a.found'),
+        (EMPTY, 'returns-else-moments-eq0', 'returns'),
         (PLANNING, 'or_else empty (first_empty wanted f (trace (fuel f) f w))', 'or_else (first_empty wanted f (trace (fuel f) f w)) empty'),
         (PLANNING, 'or_else empty (first_empty wanted f (s ∷ ss))', 'or_else (first_empty wanted f (s ∷ ss)) empty'),
         (PLANNING, '  pub planned-none', OR_NONE + '  pub planned-none'),
