@@ -4,10 +4,11 @@
     python3 tools/floats.py             lists them
     python3 tools/floats.py --faults    runs the programs with the float faults on
 
-Run from the project's root after the gate. The operations are those of the code that the build compiles (`rt mir`), by crate and
-function, so they leave out nothing that a library can do; the instructions are those of the programs' objects, by the function
-that they stand in after all that the compiler does. An instruction counts that computes, compares or converts: these alone can
-raise a flag of IEEE 754. One that moves a register or works on its bits does not.
+Run from the project's root after the gate. The operations are those of the code that the check proves and the build compiles (`rt
+check --generated`), by crate and function, so they leave out nothing that a library can do; the instructions are those of the
+programs that the gate leaves in out/, as LLVM builds them, by the function that they stand in after all that the compiler does. An
+instruction counts that computes, compares or converts: these alone can raise a flag of IEEE 754. One that moves a register or works
+on its bits does not.
 
 With --faults each program runs with every flag but inexact made a fault that kills it, and has to write what it is to write. It
 needs a C compiler.
@@ -24,8 +25,8 @@ import sys
 import tempfile
 import textwrap
 
-# In the operations' names: floatDiv, intToFloat, floatToBits, ..
-OPERATION = re.compile(r'\((?:op[12]) \(?(\w*[fF]loat\w*)')
+# In the operations' names: float_div, int_to_float, float_to_bits, ..
+OPERATION = re.compile(r'\bSyntax\.op[12]\s+\(?Syntax\.(\w*float\w*)')
 # Of x86-64: SSE and AVX arithmetic, comparisons and conversions, and all of the older float unit
 INSTRUCTION = re.compile(r'v?(?:(?:add|sub|mul|div|sqrt|rsqrt|rcp|min|max|cmp\w*|u?comi|round|addsub|hadd|hsub|dp|fn?m\w+)[sp][sd]|cvt\w+)|f\w+')
 FUNCTION = re.compile(r'^[0-9a-f]+ <(.+)>:$')
@@ -55,18 +56,21 @@ def printed(*command):
 def operations(crate):
     """By function, the float operations of a crate's own code."""
     found = {}
-    for part in printed('rt', 'mir', crate).split('(fn-def "')[1:]:
-        name = part[:part.index('"')]
-        ops = collections.Counter(OPERATION.findall(part))
-        if ops and name.split('::')[0] == crate:
-            found[name] = ops
+    with tempfile.TemporaryDirectory() as folder:
+        subprocess.run(['rt', 'check', '--generated', folder], cwd=f'crates/{crate}', stdout=subprocess.DEVNULL, check=True)
+        own = f'{folder}/Rattle-{crate}-proofs'
+        for path in sorted(glob.glob(f'{own}/**/Code/Mir.antt', recursive=True)):
+            with open(path, encoding='utf-8') as file:
+                ops = collections.Counter(OPERATION.findall(file.read()))
+            if ops:
+                found['::'.join([crate, *os.path.relpath(path, own).split(os.sep)[:-2]])] = ops
     return found
 
 
 def instructions(program):
-    """By function, the float instructions of a program's object."""
+    """By function, the float instructions of a program."""
     found, name = {}, None
-    for line in printed('objdump', '-d', '--no-show-raw-insn', f'target/obj/{program}.o').splitlines():
+    for line in printed('objdump', '-d', '--no-show-raw-insn', f'crates/{program}/out/{program}').splitlines():
         if begins := FUNCTION.match(line):
             name = begins[1]
         elif len(words := line.split('\t')) > 1 and INSTRUCTION.fullmatch(op := words[1].split()[0]):
@@ -100,7 +104,7 @@ def faults():
         for program in programs():
             given = f'crates/{program}/stdin'
             with open(given if os.path.exists(given) else os.devnull, 'rb') as stdin:
-                run = subprocess.run([os.path.abspath(f'target/bin/{program}')], stdin=stdin, stdout=subprocess.PIPE,
+                run = subprocess.run([os.path.abspath(f'crates/{program}/out/{program}')], stdin=stdin, stdout=subprocess.PIPE,
                                      env=dict(os.environ, LD_PRELOAD=library))
             with open(f'crates/{program}/stdout', 'rb') as stdout:
                 right = run.returncode == 0 and run.stdout == stdout.read()
