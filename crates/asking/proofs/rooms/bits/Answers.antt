@@ -10,8 +10,7 @@ use lib.Signed.{lt_z, non_neg}
 use mir.Syntax.{w32}
 use mir.Val.{Fits, SFits, to_z, of_z}
 use mir.Facts.{to_z_pos, to_z-of_z}
-use Rattle.asking.proofs.rooms.bits.Statement.{statement}
-use Rattle.asking.proofs.rooms.bits.Tie as tie
+use Rattle.asking.proofs.rooms.bits.Goals as goal
 
 complement-small : (z : ℤ) → SFits w32 z → lt_z (to_z w32 (of_z w32 z)) (pos 0) ≡ true → 4294967295 - of_z w32 z < 2 ^ 31
 complement-small (pos n) f t = omega (arith, ltb-true n 0 (rw (to_z_pos w32 f.sfits) at t))
@@ -25,18 +24,18 @@ not_negative (negsuc k) f t =
     let z : ◌≡◌ {A = ℕ} 0 1 = cc in
     absurd (omega arith)
 
-cast-result : tie.Need-overflow-cast-result
-cast-result c =
-    let h = complement-small c.before.args.z c.before.ranges.z c.if1.true in
+pub overflow_cast-result : goal.overflow_cast-result
+overflow_cast-result c =
+    let h = complement-small c.args.z c.ranges.z c.if-z-lt0.true in
     rw (to_z_pos w32 h) (tt, record { fits = omega arith })
 
-sub-result : tie.Need-overflow-sub-result
-sub-result c =
-    let h = complement-small c.before.args.z c.before.ranges.z c.if1.true in
+pub overflow_sub-result : goal.overflow_sub-result
+overflow_sub-result c =
+    let h = complement-small c.args.z c.ranges.z c.if-z-lt0.true in
     rw (to_z_pos w32 h) (omega arith)
 
-cast-result-2 : tie.Need-overflow-cast-result-2
-cast-result-2 c = not_negative c.before.args.z c.before.ranges.z c.if1.false
+pub overflow_cast-result-else-z-lt0 : goal.overflow_cast-result-else-z-lt0
+overflow_cast-result-else-z-lt0 c = not_negative c.args.z c.ranges.z c.if-z-lt0.false
 
 -- and the complement of that complement has the bits
 negative-bits : (z : ℤ) → SFits w32 z → lt_z (to_z w32 (of_z w32 z)) (pos 0) ≡ true → 4294967295 - nat_abs (to_z w32 (4294967295 - of_z w32 z)) ≡ of_z w32 z
@@ -50,11 +49,8 @@ own_bits (negsuc k) f t =
     let z : ◌≡◌ {A = ℕ} 0 1 = cc in
     absurd (omega arith)
 
-returns : tie.Need-returns
-returns c = negative-bits c.before.args.z c.before.ranges.z c.if1.true
+pub returns-then-z-lt0 : goal.returns-then-z-lt0
+returns-then-z-lt0 c = negative-bits c.args.z c.ranges.z c.if-z-lt0.true
 
-returns-2 : tie.Need-returns-2
-returns-2 c = own_bits c.before.args.z c.before.ranges.z c.if1.false
-
-pub bits-spec : {M : Type 1} → statement M
-bits-spec = tie.close (tie.spec cast-result sub-result cast-result-2 returns returns-2)
+pub returns-else-z-lt0 : goal.returns-else-z-lt0
+returns-else-z-lt0 c = own_bits c.args.z c.ranges.z c.if-z-lt0.false
