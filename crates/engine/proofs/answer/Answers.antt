@@ -37,7 +37,7 @@ right-3 c = sym c.right.ensures ∙ c.if-not-right.false
 pub fill-requires : goal.fill-requires
 fill-requires c =
     let l = c.if-kinds-n.false in
-    let h = c.if-hundredths-n.false in
+    let room = c.if-hundredths-n.false in
     record { index_value = right-3 c; n_value = c.shortest-n.ensures; n_in_bounds = (omega arith, omega arith) }
 
 many-3 : (c : goal.After-hundredths-1) → let a = c.args in c.shortest-n.result ≡ length (asked a.radials.now a.types.now a.gates.now)
