@@ -17,7 +17,7 @@ use Rattle.le.proofs.Tests.{both}
 use Rattle.rules.specs.Masks.{bit}
 use Rattle.rules.specs.Ranges.{among, within}
 use Rattle.rules.proofs.Numbers.{by_bits, exactly, bin-by-size}
-use Rattle.rules.specs.declared.check.Check.TheVariants.{Fine}
+use Rattle.std.specs.Prelude.{Ok}
 use Rattle.moment.specs.declared.Moment.{Moment}
 use Rattle.moment.specs.declared.MomentDue.{MomentDue}
 use Rattle.radial.specs.declared.Radial.{Radial}
@@ -53,7 +53,7 @@ bin-is : (b : Bool) (x : ℕ) → cond b (eqb x 2) (eqb x 1) ≡ true → (x ≡
 bin-is true x e = inr (eqb-true x 2 e)
 bin-is false x e = inl (eqb-true x 1 e)
 
-header-sound : (b : List ℕ) (p : ℕ) (d : MomentDue) → moment_check (moment_at b p) d ≡ Fine → p + 32 + (moment_at b p).length ≤ length b → Sound b p
+header-sound : (b : List ℕ) (p : ℕ) (d : MomentDue) → moment_check (moment_at b p) d ≡ (Ok tt) → p + 32 + (moment_at b p).length ≤ length b → Sound b p
 unfolding moment_check data_at
 header-sound b p d e r =
     let h = moment_at b p in

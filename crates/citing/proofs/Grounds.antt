@@ -7,8 +7,8 @@ use mathlib.Core.Logic.{◌⊎◌, inl, inr}
 use mathlib.Core.Path.{◌≡◌, refl, sym, ap, ap₂, subst, subst⁻¹, ◌∙◌}
 use lib.ListN.{length, take, length-append}
 use Rattle.le.specs.Le.{Bytes}
-use Rattle.rules.specs.declared.check.Check.{Check}
-use Rattle.rules.specs.declared.check.Check.TheVariants.{Fine, Broken}
+use Rattle.rules.specs.Check.{Check}
+use Rattle.std.specs.Prelude.{Ok, Err}
 use Rattle.rules.specs.declared.check.Clause.{Clause}
 use Rattle.rules.specs.Check.{Hold, First, verdict}
 use Rattle.rules.proofs.Judged.{first-decides, fine-if}
@@ -75,11 +75,11 @@ module _ (a : Accepted) (rest : List ℕ) (bs : Bytes (bytes_of_accepted a ++ re
   unfolding by_rules
   by-clause c d i k =
       let q = block-is a rest w h.is b at i in
-      subst⁻¹ (Grounds a rest) (here (Broken c) d i (first-decides k) ∙ (λ j. why.Broken (cited_of f (at j + c.place) (q j) c))) (clause a rest c d k)
+      subst⁻¹ (Grounds a rest) (here (Err c) d i (first-decides k) ∙ (λ j. why.Broken (cited_of f (at j + c.place) (q j) c))) (clause a rest c d k)
 
   by-none : due_size a ≤ length rest → is_end w.due ≡ false → Hold (due_rules a rest) → (Begins (bytes_of_accepted a ++ take (due_size a) rest) → ⊥) → Grounds a rest (why_of f)
   unfolding by_rules
-  by-none d i k none = subst⁻¹ (Grounds a rest) (here Fine d i (fine-if (due_rules a rest) k) ∙ ap why.Hopeless (block-is a rest w h.is b at i)) (hopeless a rest d k none)
+  by-none d i k none = subst⁻¹ (Grounds a rest) (here (Ok tt) d i (fine-if (due_rules a rest) k) ∙ ap why.Hopeless (block-is a rest w h.is b at i)) (hopeless a rest d k none)
 
 -- bytes behind a volume
 by-trailing : (v : Volume) (rest : List ℕ) → 0 < length rest → Behind (volume v) (stop (bytes_of_volume v ++ rest)) → (stop (bytes_of_volume v ++ rest)).at ≡ length (bytes_of_volume v) → stretches (bytes_of_volume v ++ rest) ≡ volume_stretches v

@@ -8,8 +8,8 @@ use lib.Dec.{lit<}
 use lib.ListN.{length, length-append}
 use Rattle.le.specs.Le.{le}
 use Rattle.le.proofs.Laws.{le-own, part_in}
-use Rattle.rules.specs.declared.check.Check.{Check}
-use Rattle.rules.specs.declared.check.Check.TheVariants.{Fine, Broken}
+use Rattle.rules.specs.Check.{Check}
+use Rattle.std.specs.Prelude.{Ok, Err}
 use Rattle.rules.specs.declared.check.Clause.{Clause}
 use Rattle.rules.specs.Check.{Rule, First, here, behind, verdict}
 use Rattle.rules.proofs.Judged.{decided-first}
@@ -137,8 +137,8 @@ block_in due.Nothing A C w h g = refl
 -- what the rules of a block in A say is said in A ++ C
 said_in : (A C : List ℕ) (w : Walk) (v : Check) → is_end w.due ≡ false → w.at + size_of w ≤ length A → Headed w.due w → verdict (rules_of w.due A w) ≡ v → by_rules (A ++ C) w v ≡ by_rules A w v
 unfolding by_rules
-said_in A C w Fine i h g e = ap why.Hopeless (block_in w.due A C w h g)
-said_in A C w (Broken c) i h g e =
+said_in A C w (Ok tt) i h g e = ap why.Hopeless (block_in w.due A C w h g)
+said_in A C w (Err c) i h g e =
     let l = first-inside (decided-first (rules_of w.due A w) c e) (rules-inside w.due A w) in
     let p = due-place A w i in
     let b = block_in w.due A C w h g in

@@ -9,8 +9,8 @@ use lib.ListN.{length, take, length-reverse}
 use lib.Seq.{take_at}
 use Rattle.le.specs.Le.{part, run, Bytes}
 use Rattle.le.proofs.Laws.{part-all, part_in, part-past}
-use Rattle.rules.specs.declared.check.Check.{Check}
-use Rattle.rules.specs.declared.check.Check.TheVariants.{Fine, Broken}
+use Rattle.rules.specs.Check.{Check}
+use Rattle.std.specs.Prelude.{Ok, Err}
 use Rattle.rules.specs.declared.check.Clause.{Clause}
 use Rattle.rules.specs.Check.{verdict}
 use Rattle.rules.proofs.Judged.{decided-first, all_hold}
@@ -57,18 +57,18 @@ stop-within f = last_within true (fuel f) f at_start (omega arith)
 
 -- where reading stops before a block that is there, its rules refuse it or hope does
 data Stopped (f : List ℕ) (w : Walk) : Type 0 where
-  by-rule : (c : Clause) → verdict (rules_of w.due f w) ≡ Broken c → Stopped f w
-  by-hope : verdict (rules_of w.due f w) ≡ Fine → Stopped f w
+  by-rule : (c : Clause) → verdict (rules_of w.due f w) ≡ Err c → Stopped f w
+  by-hope : verdict (rules_of w.due f w) ≡ (Ok tt) → Stopped f w
 
 stopped : (f : List ℕ) (w : Walk) → Stopped f w
 stopped f w = go (verdict (rules_of w.due f w)) refl
   where
     go : (v : Check) → verdict (rules_of w.due f w) ≡ v → Stopped f w
-    go Fine e = by-hope e
-    go (Broken c) e = by-rule c e
+    go (Ok tt) e = by-hope e
+    go (Err c) e = by-rule c e
 
 -- where they do not, hope does: reading stops there
-no-hope : (f : List ℕ) → is_end (stop f).due ≡ false → (stop f).at + size_of (stop f) ≤ length f → verdict (rules_of (stop f).due f (stop f)) ≡ Fine
+no-hope : (f : List ℕ) → is_end (stop f).due ≡ false → (stop f).at + size_of (stop f) ≤ length f → verdict (rules_of (stop f).due f (stop f)) ≡ (Ok tt)
     → hope_at (stop f).due (take ((stop f).at + size_of (stop f)) f) (stop f) ≡ false
 unfolding hoping Stays settle
 no-hope f i h e = go (hope_at (stop f).due (take ((stop f).at + size_of (stop f)) f) (stop f)) refl

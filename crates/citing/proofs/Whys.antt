@@ -7,7 +7,7 @@ use mathlib.Core.List.{List, [], ◌∷◌}
 use mathlib.Core.Logic.{◌⊎◌, inl, inr}
 use lib.ListN.{length}
 use borrow.Author.Tests.{le-leb, lt-leb, lt-ltb, le-ltb}
-use Rattle.rules.specs.declared.check.Check.TheVariants.{Broken}
+use Rattle.std.specs.Prelude.{Err}
 use Rattle.rules.specs.declared.check.Clause.{Clause}
 use Rattle.rules.specs.Check.{Rule, First, here, behind, verdict}
 use Rattle.rules.proofs.Judged.{decided-first, all_hold}
@@ -101,7 +101,7 @@ rules-sized due.Moment f w = (inr refl, (inr refl, (inr refl, (inl refl, (inr re
 rules-sized due.Data f w = tt
 rules-sized due.Nothing f w = tt
 
-pub clause-sized : (f : List ℕ) (w : Walk) (c : Clause) → verdict (rules_of w.due f w) ≡ Broken c → (c.size ≡ 2) ⊎ (c.size ≡ 4)
+pub clause-sized : (f : List ℕ) (w : Walk) (c : Clause) → verdict (rules_of w.due f w) ≡ Err c → (c.size ≡ 2) ⊎ (c.size ≡ 4)
 clause-sized f w c e = first-sized (decided-first (rules_of w.due f w) c e) (rules-sized w.due f w)
 
 -- ---- no file has more than 65,536 whole radials (number 12)

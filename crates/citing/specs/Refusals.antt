@@ -1,8 +1,8 @@
 -- Why a file is refused (document 02, #104): the block, the field, what was found there and which clause of the table it breaks. The
 -- clause is the one that the block's own rule list decides the refusal by.
 use Rattle.std.specs.Prelude.{ℕ, ◌+◌, ◌-◌, cond, List, [], ◌∷◌, leb, ltb, length}
-use Rattle.rules.specs.declared.check.Check.{Check}
-use Rattle.rules.specs.declared.check.Check.TheVariants.{Fine, Broken}
+use Rattle.rules.specs.Check.{Check}
+use Rattle.std.specs.Prelude.{Ok, Err}
 use Rattle.rules.specs.declared.check.Clause.{Clause}
 use Rattle.rules.specs.Check.{verdict}
 use Rattle.radial.specs.Radial.{radial_at}
@@ -45,8 +45,8 @@ cited_of f place b c = record { place = place; clause = c; block = b; field = fi
 -- what the due block's rules say: the first broken clause, or, where they are kept and the block is refused all the same, that no hope is
 -- left behind it (number 40)
 unfoldable pub by_rules : List ℕ → Walk → Check → Why
-by_rules f w Fine = why.Hopeless (block_due w.due f w)
-by_rules f w (Broken c) = why.Broken (cited_of f (w.at + c.place) (block_due w.due f w) c)
+by_rules f w (Ok tt) = why.Hopeless (block_due w.due f w)
+by_rules f w (Err c) = why.Broken (cited_of f (w.at + c.place) (block_due w.due f w) c)
 
 -- of the walk at which reading stops
 unfoldable pub why_at : List ℕ → Walk → Why

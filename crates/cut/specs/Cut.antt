@@ -4,7 +4,7 @@ use mathlib.Core.List.{List, [], ◌∷◌, ◌++◌}
 use Rattle.le.specs.Le.{le, bytes, part, run, int}
 use Rattle.rules.specs.Ranges.{among}
 use Rattle.cut.specs.declared.Cut.{Cut}
-use Rattle.rules.specs.declared.check.Check.{Check}
+use Rattle.rules.specs.Check.{Check}
 use Rattle.rules.specs.Check.{Rule, rule, verdict}
 
 -- how many bytes the block has (table 2-5)

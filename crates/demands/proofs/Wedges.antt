@@ -10,7 +10,7 @@ use lib.Dec.{leb, ltb, eqb}
 use lib.Ieee.{binary32, of_bits, of_int, le, lt, eq}
 use lib.Ieee.Exact.{HasValue}
 use Rattle.le.proofs.Tests.{both}
-use Rattle.rules.specs.declared.check.Check.TheVariants.{Fine}
+use Rattle.std.specs.Prelude.{Ok}
 use Rattle.rules.specs.Ranges.{angle, between, is_azimuth}
 use Rattle.rules.proofs.Judged.{all_hold}
 use Rattle.radial.specs.declared.Radial.{Radial}
@@ -33,7 +33,7 @@ use Rattle.demands.specs.Wedges.{wedge, Lies, Parted, computed, table, CountsAs,
 
 -- ---- azimuths
 
-parted : (r : Radial) (d : RadialDue) → radial_check r d ≡ Fine → Parted r
+parted : (r : Radial) (d : RadialDue) → radial_check r d ≡ (Ok tt) → Parted r
 unfolding radial_check
 parted r d e =
     let is = (header r d (all_hold (radial_rules r d) e)).azimuth in

@@ -2,7 +2,7 @@
 use Rattle.std.specs.Prelude.{true, false, List, [], ◌∷◌, map, ◌⊎◌, ◌≡◌, ℕ, ◌<◌, ◌≤◌, ℤ, pos, length}
 use Rattle.rules.specs.declared.check.Clause.{Clause}
 use Rattle.le.specs.Le.{Bytes}
-use Rattle.rules.specs.declared.check.Check.TheVariants.{Fine, Broken}
+use Rattle.std.specs.Prelude.{Ok, Err}
 use Rattle.rules.specs.Check.{Rule, verdict, Hold, First}
 use Rattle.cut.specs.declared.Cut.{Cut}
 use Rattle.generic.specs.declared.Generic.{Generic}
@@ -73,10 +73,10 @@ pub record Volumes : Type 0 where
 -- a complete volume, or that block keeps its rules and no hope is left behind it (`Hopes`); open exactly when that block is not all
 -- there, by what is missing of it
 pub record RefusedExactly : Type 0 where
-  pub fine : (rules : List Rule) → verdict rules ≡ Fine → Hold rules
-  pub holds : (rules : List Rule) → Hold rules → verdict rules ≡ Fine
-  pub refused : (rules : List Rule) (c : Clause) → verdict rules ≡ Broken c → First rules c
-  pub first : (rules : List Rule) (c : Clause) → First rules c → verdict rules ≡ Broken c
+  pub fine : (rules : List Rule) → verdict rules ≡ (Ok tt) → Hold rules
+  pub holds : (rules : List Rule) → Hold rules → verdict rules ≡ (Ok tt)
+  pub refused : (rules : List Rule) (c : Clause) → verdict rules ≡ Err c → First rules c
+  pub first : (rules : List Rule) (c : Clause) → First rules c → verdict rules ≡ Err c
   pub files : (f : List ℕ) → ToldExactly f
 
 -- what reading accepts as a whole radial is a header that keeps its rules and moments that tile it, each keeping its own: against

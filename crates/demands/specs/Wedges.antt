@@ -4,7 +4,7 @@ use Rattle.std.specs.Prelude.{ℕ, ◌+◌, ◌*◌, ◌^◌, ◌≤◌, ◌<◌
 use Rattle.std.specs.Float.{fin, inf, nan, binary32}
 use Rattle.std.specs.Float.Ieee.{of_bits}
 use Rattle.std.specs.Float.Ieee.Exact.{HasValue}
-use Rattle.rules.specs.declared.check.Check.TheVariants.{Fine}
+use Rattle.std.specs.Prelude.{Ok}
 use Rattle.rules.specs.Ranges.{is_azimuth}
 use Rattle.radial.specs.declared.Radial.{Radial}
 use Rattle.radial.specs.declared.RadialDue.{RadialDue}
@@ -115,7 +115,7 @@ pub record Apart (a b : ℕ) : Type 0 where
 pub record Wedges : Type 0 where
   pub lies : (w : Wedge) (bits a c : ℕ) (s : Bool) → bits < 2 ^ 32 → is_azimuth bits ≡ true → 0 < c → HasValue (of_bits binary32 bits) s a c → Lies w bits a c
   pub no-azimuth : (w : Wedge) (bits : ℕ) → is_azimuth bits ≡ false → in_wedge w bits ≡ false
-  pub parted : (r : Radial) (d : RadialDue) → radial_check r d ≡ Fine → Parted r
+  pub parted : (r : Radial) (d : RadialDue) → radial_check r d ≡ (Ok tt) → Parted r
   pub numbers : map computed table ≡ table
   pub add-up : (f : List ℕ) (cut t a b : ℕ) → Apart a b → cut_accepted (stop f) cut ≡ true → AddUp f cut t a b
   pub nothing : (f : List ℕ) (cut t a b : ℕ) → Apart a b → cut_accepted (stop f) cut ≡ false → Nothing f cut t a b

@@ -2,8 +2,8 @@
 -- table's clauses, with their fields, as the rule lists have them.
 use Rattle.std.specs.Prelude.{ℕ, ◌+◌, ◌*◌, ◌%◌, ◌&&◌, cond, not, List, [], ◌∷◌, map, ◌≡◌, eqb, leb, pos, length}
 use Rattle.le.specs.Le.{int, le, short, Bytes}
-use Rattle.rules.specs.declared.check.Check.{Check}
-use Rattle.rules.specs.declared.check.Check.TheVariants.{Fine, Broken}
+use Rattle.rules.specs.Check.{Check}
+use Rattle.std.specs.Prelude.{Ok, Err}
 use Rattle.rules.specs.Check.{Rule, breaks, every, holds, rule, verdict}
 use Rattle.rules.specs.Masks.{bin_length_clauses, bit, type_clauses}
 use Rattle.rules.specs.Ranges.{among, count_clauses, is, most_radials, most_sequence}
@@ -99,8 +99,8 @@ as_one r = rule r.place r.size r.number (holds r ∷ [])
 
 -- the number and the place in the block by which a block is refused; none where it is fine
 abbrev pub refusal_in : Check → List ℕ
-refusal_in Fine = []
-refusal_in (Broken c) = c.number ∷ c.place ∷ []
+refusal_in (Ok tt) = []
+refusal_in (Err c) = c.number ∷ c.place ∷ []
 
 -- numbers and places are those of one line a field, and each such line holds where it held
 pub record AsBefore : Type 0 where

@@ -6,7 +6,7 @@ ghost use Rattle.le.specs.Le.{stored, patch, int};
 ghost use Rattle.rules.specs.Ranges.{is};
 ghost use Rattle.generic.specs.Generic.{generic_of, generic_at, generic_bytes, generic_size, generic_check};
 
-use rules::check::{Check, also};
+use rules::check::{Clause, rule};
 
 #[derive(Clone, Copy)]
 pub struct Generic {
@@ -83,18 +83,16 @@ impl Generic {
     }
 
     // The first broken clause of the first broken rule of the block.
-    pub fn check(self) -> Check
+    pub fn check(self) -> Result<(), Clause>
         ensures { result ≡ generic_check self }
     {
-        let v = also(Check::Fine, magic_ok(self.magic), 1, Self::MAGIC as u8, 4);
-        let v = also(
-            v,
+        rule(magic_ok(self.magic), 1, Self::MAGIC as u8, 4)?;
+        rule(
             generic_type_ok(self.generic_type),
             2,
             Self::GENERIC_TYPE as u8,
             4,
-        );
-        v
+        )
     }
 }
 

@@ -6,7 +6,7 @@ use mathlib.Core.Bool.{Bool, true, false, cond, ◌||◌, or-true}
 use lib.Dec.{eqb, lit<}
 use borrow.Author.Tests.{eq-eqb, ne_eqb}
 use Rattle.le.specs.Le.{Bytes, int}
-use Rattle.rules.specs.declared.check.Check.{Check}
+use Rattle.rules.specs.Check.{Check}
 use Rattle.rules.specs.Ranges.{among, is, most_radials, most_sequence, not_below_zero, on_bits}
 use Rattle.rules.specs.Masks.{bit}
 use Rattle.rules.specs.States.{opening, closing, state_ok}

@@ -6,7 +6,7 @@ use mathlib.Core.List.{List, [], ◌∷◌, ◌++◌}
 use lib.Dec.{lit<}
 use lib.ListN.{length, get_or}
 use Rattle.le.specs.Le.{bytes, run, Bytes}
-use Rattle.rules.specs.declared.check.Check.TheVariants.{Fine}
+use Rattle.std.specs.Prelude.{Ok}
 use Rattle.rules.specs.Ranges.{among, not_below_zero, on_bits}
 use Rattle.rules.specs.States.{rhi, most_cuts, cut_number_clauses}
 use Rattle.rules.proofs.Judged.{fine-if}
@@ -86,19 +86,19 @@ the_cut = record { process_mode = 1; wave_form = 0; prf1 = 0; prf2 = 0; unfold_m
 pub cut_fits : CutFits the_cut
 cut_fits = search (zeros-length, lit<)
 
-pub generic-fine : generic_check the_generic ≡ Fine
+pub generic-fine : generic_check the_generic ≡ (Ok tt)
 unfolding generic_check among
 generic-fine = fine-if (generic_rules the_generic) (refl, (refl, tt))
 
-pub site-fine : site_check the_site ≡ Fine
+pub site-fine : site_check the_site ≡ (Ok tt)
 unfolding site_check on_bits
 site-fine = fine-if (site_rules the_site) (latitude 0 (lit< tt), (longitude 0 (lit< tt), tt))
 
-pub task-fine : task_check the_task ≡ Fine
+pub task-fine : task_check the_task ≡ (Ok tt)
 unfolding task_check among not_below_zero cut_number_clauses most_cuts rhi
 task-fine = fine-if (task_rules the_task) (refl, (refl, (refl, (refl, tt))))
 
-pub cut-fine : cut_check the_cut ≡ Fine
+pub cut-fine : cut_check the_cut ≡ (Ok tt)
 unfolding cut_check among
 cut-fine = fine-if (cut_rules the_cut) (refl, (refl, (refl, (refl, (refl, (refl, tt))))))
 

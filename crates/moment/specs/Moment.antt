@@ -6,7 +6,7 @@ use Rattle.rules.specs.Masks.{bin_length_clauses, type_clauses}
 use Rattle.rules.specs.Tiling.{length_clauses, moment_header}
 use Rattle.moment.specs.declared.Moment.{Moment}
 use Rattle.moment.specs.declared.MomentDue.{MomentDue}
-use Rattle.rules.specs.declared.check.Check.{Check}
+use Rattle.rules.specs.Check.{Check}
 use Rattle.rules.specs.Check.{Rule, rule, verdict}
 
 -- how many bytes the block has (table 3-2)

@@ -1,12 +1,12 @@
 // The moment header block (table 3-2): 32 bytes, every one of them in a field. INT, SHORT and FLOAT fields are carried as their bits.
 #![tactic(auto)]
 
-ghost use Rattle.std.specs.Prelude.{◌≡◌, ◌+◌, ◌≤◌, length, pos};
-ghost use Rattle.le.specs.Le.{stored, patch, int};
-ghost use Rattle.rules.specs.Ranges.{among};
+ghost use Rattle.std.specs.Prelude.{◌≡◌, ◌+◌, ◌≤◌, length};
+ghost use Rattle.le.specs.Le.{stored, patch};
 ghost use Rattle.moment.specs.Moment.{moment_of, moment_at, moment_bytes, moment_size, moment_check};
 
-use rules::check::{Check, also, also_clauses};
+use rules::check::{Clause, clauses, rule};
+use rules::ranges::among;
 use rules::{masks, tiling};
 
 #[derive(Clone, Copy)]
@@ -97,52 +97,28 @@ impl Moment {
     }
 
     // The first broken clause of the first broken rule of the block.
-    pub fn check(self, due: MomentDue) -> Check
+    pub fn check(self, due: MomentDue) -> Result<(), Clause>
         ensures { result ≡ moment_check self due }
     {
-        let v = also_clauses(
-            Check::Fine,
+        clauses(
             masks::type_breaks(due.mask, due.seen, self.data_type),
             20,
             Self::DATA_TYPE as u8,
             4,
-        );
-        let v = also(v, scale_ok(self.scale), 21, Self::SCALE as u8, 4);
-        let v = also(v, offset_ok(self.offset), 22, Self::OFFSET as u8, 4);
-        let v = also_clauses(
-            v,
+        )?;
+        rule(among(1, 32768, self.scale), 21, Self::SCALE as u8, 4)?;
+        rule(among(0, 32768, self.offset), 22, Self::OFFSET as u8, 4)?;
+        clauses(
             masks::bin_length_breaks(due.sizes, self.data_type, self.bin_length),
             23,
             Self::BIN_LENGTH as u8,
             2,
-        );
-        let v = also_clauses(
-            v,
+        )?;
+        clauses(
             tiling::length_breaks(due.todo, due.left, self.bin_length, self.length),
             24,
             Self::LENGTH as u8,
             4,
-        );
-        v
-    }
-}
-
-// Number 21 (table 3-2).
-fn scale_ok(x: u32) -> bool
-    ensures { result ≡ among (pos 1) (pos 32768) (int x) }
-{
-    match x {
-        1..=32768 => true,
-        _ => false,
-    }
-}
-
-// Number 22 (table 3-2).
-fn offset_ok(x: u32) -> bool
-    ensures { result ≡ among (pos 0) (pos 32768) (int x) }
-{
-    match x {
-        0..=32768 => true,
-        _ => false,
+        )
     }
 }

@@ -14,7 +14,7 @@ use Rattle.le.specs.Le.{int}
 use Rattle.rules.specs.Ranges.{among, count_clauses, is, most_radials, most_sequence, not_below_zero}
 use Rattle.rules.specs.States.{state_ok}
 use Rattle.rules.specs.Check.{Rule, rule, verdict, Hold}
-use Rattle.rules.specs.declared.check.Check.TheVariants.{Fine}
+use Rattle.std.specs.Prelude.{Ok}
 use Rattle.rules.proofs.Judged.{all_hold}
 use Rattle.rules.proofs.Numbers.{inside, zero-by-bits}
 use Rattle.radial.specs.declared.RadialDue.{RadialDue}
@@ -29,7 +29,7 @@ use Rattle.old.proofs.Lengths.{length-fine, number-fine}
 use Rattle.old.proofs.Fine.{azimuth-fine, elevation-is}
 
 -- each of its four rules holds
-pub rules-hold : (o : OldRadial) → old_check o ≡ Fine → Hold (old_rules o)
+pub rules-hold : (o : OldRadial) → old_check o ≡ (Ok tt) → Hold (old_rules o)
 unfolding old_check
 rules-hold o e = all_hold (old_rules o) e
 
@@ -52,7 +52,7 @@ radial_left o sequence number d =
     ∷ rule 24 4 16 (leb o.elevation 16384 ∷ [])
     ∷ []
 
-module _ (o : OldRadial) (ok : old_check o ≡ Fine) (az : o.azimuth < 65536) (el : o.elevation < 65536)
+module _ (o : OldRadial) (ok : old_check o ≡ (Ok tt)) (az : o.azimuth < 65536) (el : o.elevation < 65536)
     (sequence number : ℕ) (d : RadialDue) where
   time : time_ok o.day o.milliseconds ≡ true
   time = (rules-hold o ok).1.0
@@ -80,4 +80,4 @@ module _ (o : OldRadial) (ok : old_check o ≡ Fine) (az : o.azimuth < 65536) (e
       (stays (ap (λ (b : Bool). rule 24 4 16 (b ∷ [])) (elevation-is o.elevation el)) (goes seconds (goes micros
       (goes (length-fine o.reflectivity o.doppler counted)
       (goes (number-fine o.reflectivity o.doppler counted) done)))))))))) in
-      fewer f Fine
+      fewer f (Ok tt)

@@ -3,8 +3,8 @@ use mathlib.Core.Path.{◌≡◌, refl, ap, ◌∙◌}
 use mathlib.Core.Bool.{true}
 use mathlib.Core.List.{List, [], ◌∷◌}
 use Rattle.rules.specs.Check.{Rule, holds, breaks, also, judge}
-use Rattle.rules.specs.declared.check.Check.{Check}
-use Rattle.rules.specs.declared.check.Check.TheVariants.{Fine, Broken}
+use Rattle.rules.specs.Check.{Check}
+use Rattle.std.specs.Prelude.{Ok, Err}
 use Rattle.rules.proofs.Judged.{held}
 
 -- the second list is the first without some rules that hold
@@ -20,8 +20,8 @@ after v r = also v (breaks r.clauses) r.number r.place r.size
 -- a rule that holds changes nothing
 passed : (v : Check) (r : Rule) → holds r ≡ true → after v r ≡ v
 unfolding also
-passed Fine r h = rw (held r h)
-passed (Broken c) r h = refl
+passed (Ok tt) r h = rw (held r h)
+passed (Err c) r h = refl
 
 pub fewer : {rs ts : List Rule} → Fewer rs ts → (v : Check) → judge v rs ≡ judge v ts
 fewer done v = refl

@@ -14,7 +14,7 @@ use Rattle.rules.specs.Ranges.{among}
 use Rattle.rules.specs.Masks.{type_clauses, bin_length_clauses}
 use Rattle.rules.specs.Tiling.{moment_header, least_moment, tiles, length_clauses, length_ok}
 use Rattle.rules.specs.Check.{Rule, rule, verdict}
-use Rattle.rules.specs.declared.check.Check.TheVariants.{Fine}
+use Rattle.std.specs.Prelude.{Ok}
 use Rattle.rules.proofs.Numbers.{inside}
 use Rattle.moment.specs.declared.MomentDue.{MomentDue}
 use Rattle.moment.specs.Moment.{moment_rules, moment_check}
@@ -44,7 +44,7 @@ unfolding moment_check moment_from
 moment-check q r g d =
     let f : Fewer (moment_rules (moment_from q r g) d) (moment_left q r g d) =
     stays refl (goes (scale-fine q r) (goes (offset-fine q r) (stays refl (stays refl done)))) in
-    fewer f Fine
+    fewer f (Ok tt)
 
 -- the length: two bytes a gate, the last moment leaving none and any other 33 for each that follows
 module _ (g todo left : ℕ) (some : 0 < g) (few : g ≤ most_doppler) where

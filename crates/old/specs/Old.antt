@@ -4,7 +4,7 @@ use Rattle.std.specs.Prelude.{ℕ, ◌<◌, ◌^◌, Bool, not, ◌&&◌, ◌||�
 use Rattle.le.specs.Le.{le, part}
 use Rattle.old.specs.Clock.{time_clauses}
 use Rattle.old.specs.declared.record.OldRadial.{OldRadial}
-use Rattle.rules.specs.declared.check.Check.{Check}
+use Rattle.rules.specs.Check.{Check}
 use Rattle.rules.specs.Check.{Rule, rule, every, verdict}
 
 -- how many bytes a radial has, and how many of them stand before its data (document 003)

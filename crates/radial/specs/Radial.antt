@@ -6,7 +6,7 @@ use Rattle.rules.specs.States.{state_ok}
 use Rattle.rules.specs.Tiling.{moment_number_clauses}
 use Rattle.radial.specs.declared.Radial.{Radial}
 use Rattle.radial.specs.declared.RadialDue.{RadialDue}
-use Rattle.rules.specs.declared.check.Check.{Check}
+use Rattle.rules.specs.Check.{Check}
 use Rattle.rules.specs.Check.{Rule, rule, verdict}
 
 -- how many bytes the block has (table 3-1)

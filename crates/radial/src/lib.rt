@@ -1,14 +1,15 @@
 // The radial header block (table 3-1): 64 bytes, every one of them in a field. INT, SHORT and FLOAT fields are carried as their bits.
 #![tactic(auto)]
 
-ghost use Rattle.std.specs.Prelude.{◌≡◌, ◌+◌, ◌≤◌, length, pos};
+ghost use Rattle.std.specs.Prelude.{◌≡◌, ◌+◌, ◌≤◌, length};
 ghost use Rattle.le.specs.Le.{stored, patch, int};
 ghost use Rattle.rules.specs.Check.{breaks};
-ghost use Rattle.rules.specs.Ranges.{among, is, count_clauses, most_radials, most_sequence};
+ghost use Rattle.rules.specs.Ranges.{is, count_clauses};
 ghost use Rattle.radial.specs.Radial.{radial_of, radial_at, radial_bytes, radial_size, radial_check};
 
-use rules::check::{Check, also, also_clauses};
-use rules::{angles, ranges, states, tiling};
+use rules::check::{Clause, clauses, rule};
+use rules::ranges::{among, not_below_zero};
+use rules::{angles, states, tiling};
 
 #[derive(Clone, Copy)]
 pub struct Radial {
@@ -126,119 +127,75 @@ impl Radial {
     }
 
     // The first broken clause of the first broken rule of the block.
-    pub fn check(self, due: RadialDue) -> Check
+    pub fn check(self, due: RadialDue) -> Result<(), Clause>
         ensures { result ≡ radial_check self due }
     {
-        let v = also(
-            Check::Fine,
+        rule(
             states::state_ok(due.scan_type, due.cuts, due.cut, due.in_cut, self.state),
             10,
             Self::STATE as u8,
             4,
-        );
-        let v = also(
-            v,
-            spot_blank_ok(self.spot_blank),
-            11,
-            Self::SPOT_BLANK as u8,
-            4,
-        );
-        let v = also_clauses(
-            v,
-            sequence_breaks(due.before, self.sequence),
+        )?;
+        rule(among(0, 1, self.spot_blank), 11, Self::SPOT_BLANK as u8, 4)?;
+        clauses(
+            count_breaks(65536, due.before, self.sequence),
             12,
             Self::SEQUENCE as u8,
             4,
-        );
-        let v = also_clauses(
-            v,
-            radial_number_breaks(due.in_cut, self.radial_number),
+        )?;
+        clauses(
+            count_breaks(1000, due.in_cut, self.radial_number),
             13,
             Self::RADIAL_NUMBER as u8,
             4,
-        );
-        let v = also(
-            v,
+        )?;
+        rule(
             elevation_number_ok(due.cut, self.elevation_number),
             14,
             Self::ELEVATION_NUMBER as u8,
             4,
-        );
-        let v = also(
-            v,
-            angles::azimuth_ok(self.azimuth),
-            15,
-            Self::AZIMUTH as u8,
-            4,
-        );
-        let v = also(
-            v,
+        )?;
+        rule(angles::azimuth_ok(self.azimuth), 15, Self::AZIMUTH as u8, 4)?;
+        rule(
             angles::elevation_ok(self.elevation),
             16,
             Self::ELEVATION as u8,
             4,
-        );
-        let v = also(
-            v,
-            ranges::not_below_zero(self.seconds),
-            17,
-            Self::SECONDS as u8,
-            4,
-        );
-        let v = also(
-            v,
-            microseconds_ok(self.microseconds),
+        )?;
+        rule(not_below_zero(self.seconds), 17, Self::SECONDS as u8, 4)?;
+        rule(
+            among(0, 999999, self.microseconds),
             17,
             Self::MICROSECONDS as u8,
             4,
-        );
-        let v = also(
-            v,
-            length_of_data_ok(self.length_of_data),
+        )?;
+        rule(
+            among(1, 100000, self.length_of_data),
             18,
             Self::LENGTH_OF_DATA as u8,
             4,
-        );
-        let v = also_clauses(
-            v,
+        )?;
+        clauses(
             tiling::moment_number_breaks(self.length_of_data, self.moment_number),
             19,
             Self::MOMENT_NUMBER as u8,
             4,
-        );
-        v
+        )
     }
 }
 
-// Number 11 (table 3-1).
-fn spot_blank_ok(x: u32) -> bool
-    ensures { result ≡ among (pos 0) (pos 1) (int x) }
+// Which clause of a count a number breaks first: one more than what it counts before it, and no more than the most.
+fn count_breaks(most: usize, before: usize, x: u32) -> u8
+    ensures { result ≡ breaks (count_clauses most before x) }
 {
     match x {
-        0..=1 => true,
-        _ => false,
-    }
-}
-
-// Which clause of number 12 (table 3-1) a sequence breaks first: one more than the radials before it, 65,536 at the most (document 02,
-// #106).
-fn sequence_breaks(before: usize, x: u32) -> u8
-    ensures { result ≡ breaks (count_clauses most_sequence before x) }
-{
-    match x {
-        1..=65536 => if (x - 1) as usize == before { 0 } else { 1 },
-        65537..=0x7fff_ffff => if (x - 1) as usize == before { 2 } else { 1 },
-        _ => 1,
-    }
-}
-
-// Which clause of number 13 (table 3-1) a radial number breaks first: its count in the cut, 1000 at the most.
-fn radial_number_breaks(before: usize, x: u32) -> u8
-    ensures { result ≡ breaks (count_clauses most_radials before x) }
-{
-    match x {
-        1..=1000 => if (x - 1) as usize == before { 0 } else { 1 },
-        1001..=0x7fff_ffff => if (x - 1) as usize == before { 2 } else { 1 },
+        1..=0x7fff_ffff => if (x - 1) as usize != before {
+            1
+        } else if before < most {
+            0
+        } else {
+            2
+        },
         _ => 1,
     }
 }
@@ -249,26 +206,6 @@ fn elevation_number_ok(cut: u32, x: u32) -> bool
 {
     match x {
         0..=0x7fff_ffff => x == cut,
-        _ => false,
-    }
-}
-
-// Number 17 (table 3-1), its second field.
-fn microseconds_ok(x: u32) -> bool
-    ensures { result ≡ among (pos 0) (pos 999999) (int x) }
-{
-    match x {
-        0..=999999 => true,
-        _ => false,
-    }
-}
-
-// Number 18 (table 3-1).
-fn length_of_data_ok(x: u32) -> bool
-    ensures { result ≡ among (pos 1) (pos 100000) (int x) }
-{
-    match x {
-        1..=100000 => true,
         _ => false,
     }
 }

@@ -10,9 +10,9 @@ use lib.ListN.{length, take}
 use Rattle.le.specs.Le.{part}
 use Rattle.le.proofs.Laws.{part-take}
 use Rattle.rules.specs.Check.{Rule, verdict, Hold, First, here, behind}
-use Rattle.rules.specs.declared.check.Check.{Check}
+use Rattle.rules.specs.Check.{Check}
 use Rattle.rules.specs.declared.check.Clause.{Clause}
-use Rattle.rules.specs.declared.check.Check.TheVariants.{Fine, Broken}
+use Rattle.std.specs.Prelude.{Ok, Err}
 use Rattle.rules.proofs.Judged.{all_hold, fine-if, first-decides, decided-first}
 use Rattle.cut.specs.declared.Cut.{Cut}
 use Rattle.generic.specs.declared.Generic.{Generic}
@@ -144,10 +144,10 @@ pub data Refuses (f : List ℕ) (w : Walk) : ℕ → ℕ → Type 0 where
   by_end : is_end w.due ≡ true → w.at < length f → Refuses f w 25 w.at
   by-hope : is_end w.due ≡ false → w.at + size_of w ≤ length f → Hold (rules_of w.due f w) → hope_at w.due (take (w.at + size_of w) f) w ≡ false → Refuses f w 40 w.at
 
-pub settle-refused : (v : Check) (at : ℕ) (m : Walk) (n p : ℕ) → settle v at m ≡ Refused n p → (c : Clause) × (v ≡ Broken c) × (c.number ≡ n) × (at + c.place ≡ p)
+pub settle-refused : (v : Check) (at : ℕ) (m : Walk) (n p : ℕ) → settle v at m ≡ Refused n p → (c : Clause) × (v ≡ Err c) × (c.number ≡ n) × (at + c.place ≡ p)
 unfolding settle
-settle-refused Fine at m n p e = absurd (let z : ◌≡◌ {A = ℕ} 0 1 = cc in omega arith)
-settle-refused (Broken c) at m n p e = (c, refl, cc, cc)
+settle-refused (Ok tt) at m n p e = absurd (let z : ◌≡◌ {A = ℕ} 0 1 = cc in omega arith)
+settle-refused (Err c) at m n p e = (c, refl, cc, cc)
 
 kept-rules : (rs : List Rule) (at : ℕ) (m n : Walk) → settle (verdict rs) at m ≡ Took n → Hold rs
 kept-rules rs at m n e = all_hold rs (settle-fine (verdict rs) at m n e)

@@ -15,7 +15,7 @@ use Rattle.le.proofs.Tests.{both}
 use Rattle.rules.specs.Masks.{with_bit}
 use Rattle.rules.specs.Tiling.{tiles, length_clauses}
 use Rattle.rules.specs.Ranges.{among}
-use Rattle.rules.specs.declared.check.Check.TheVariants.{Fine}
+use Rattle.std.specs.Prelude.{Ok}
 use Rattle.moment.specs.declared.Moment.{Moment}
 use Rattle.moment.specs.declared.MomentDue.{MomentDue}
 use Rattle.radial.specs.declared.Radial.{Radial}
@@ -81,7 +81,7 @@ out-if false f m s o = o
 
 -- one moment more in front of those that tile
 pub tile-more : (f : List ℕ) (mask sizes seen left todo at end : ℕ) (h : Moment) → h ≡ moment_at f at → 1 ≤ todo
-    → moment_check h (due_with mask sizes seen left todo) ≡ Fine
+    → moment_check h (due_with mask sizes seen left todo) ≡ (Ok tt)
     → Tiled f mask sizes (with_bit seen h.data_type) (left - (32 + h.length)) (todo - 1) (at + 32 + h.length) end
     → Tiled f mask sizes seen left todo at end
 tile-more f mask sizes seen left zero at end h e t g r = absurd (omega arith)
@@ -245,7 +245,7 @@ all_whole f = each-radial f (AllWhole f) tt (λ w s ss o h r. (o.whole, r))
 -- ---- what a whole radial's header says: its cut, and where the radial ends
 
 -- a moment that keeps its rules fits in what is left, and the last leaves nothing
-fits-left : (h : Moment) (d : MomentDue) → moment_check h d ≡ Fine → (32 + h.length ≤ d.left) × (d.todo ≤ 1 → 32 + h.length ≡ d.left)
+fits-left : (h : Moment) (d : MomentDue) → moment_check h d ≡ (Ok tt) → (32 + h.length ≤ d.left) × (d.todo ≤ 1 → 32 + h.length ≡ d.left)
 unfolding moment_check length_clauses tiles
 fits-left h d e = go (leb d.todo 1) refl
   where

@@ -9,8 +9,8 @@ use mathlib.Core.Logic.{◌⊎◌, inl, inr, ⊎_elim}
 use lib.ListN.{length, take}
 use lib.Dec.{leb, ltb}
 use borrow.Author.Tests.{le-leb, lt-leb, lt-ltb, le-ltb, leb-true, leb-false, ltb-true, ltb-false}
-use Rattle.rules.specs.declared.check.Check.{Check}
-use Rattle.rules.specs.declared.check.Check.TheVariants.{Fine, Broken}
+use Rattle.rules.specs.Check.{Check}
+use Rattle.std.specs.Prelude.{Ok, Err}
 use Rattle.walk.specs.declared.due.Due.{Due}
 use Rattle.walk.specs.declared.due.Due.TheVariants as due
 use Rattle.walk.specs.declared.due.Walk.{Walk}
@@ -117,8 +117,8 @@ pub data Plain (s : Step) : Type 0 where
 
 pub settle-plain : (v : Check) (at : ℕ) (n : Walk) → Plain (settle v at n)
 unfolding settle
-settle-plain Fine at n = took n refl
-settle-plain (Broken c) at n = refused c.number (at + c.place) refl
+settle-plain (Ok tt) at n = took n refl
+settle-plain (Err c) at n = refused c.number (at + c.place) refl
 
 pub block-plain : (d : Due) (p : List ℕ) (w : Walk) → is_end d ≡ false → Plain (block_at d p w)
 unfolding is_end block_at take_generic take_site take_task take_cut take_radial take_moment take_data
@@ -180,13 +180,13 @@ module _ (asked : Bool) where
 
 pub settle-took : (v : Check) (at : ℕ) (n m : Walk) → settle v at n ≡ Took m → n ≡ m
 unfolding settle
-settle-took Fine at n m e = cc
-settle-took (Broken c) at n m e = cc
+settle-took (Ok tt) at n m e = cc
+settle-took (Err c) at n m e = cc
 
-pub settle-fine : (v : Check) (at : ℕ) (n m : Walk) → settle v at n ≡ Took m → v ≡ Fine
+pub settle-fine : (v : Check) (at : ℕ) (n m : Walk) → settle v at n ≡ Took m → v ≡ (Ok tt)
 unfolding settle
-settle-fine Fine at n m e = refl
-settle-fine (Broken c) at n m e = cc
+settle-fine (Ok tt) at n m e = refl
+settle-fine (Err c) at n m e = cc
 
 pub took-inj : (x y : Walk) → Took x ≡ Took y → x ≡ y
 took-inj x y e = cc

@@ -1,8 +1,8 @@
 -- One step of the walk: the due block, taken or refused, or what is missing of it. The plain step asks the block's own rules alone; the
 -- step that reading goes by asks for hope besides (document 02, #110).
 use Rattle.std.specs.Prelude.{ℕ, ◌+◌, ◌-◌, Bool, true, false, List, leb, ltb, length, take}
-use Rattle.rules.specs.declared.check.Check.{Check}
-use Rattle.rules.specs.declared.check.Check.TheVariants.{Fine, Broken}
+use Rattle.rules.specs.Check.{Check}
+use Rattle.std.specs.Prelude.{Ok, Err}
 use Rattle.cut.specs.declared.Cut.{Cut}
 use Rattle.generic.specs.declared.Generic.{Generic}
 use Rattle.moment.specs.declared.Moment.{Moment}
@@ -26,8 +26,8 @@ use Rattle.walk.specs.Hope.{moments_hope, radial_hope}
 
 -- a block that keeps its rules is taken; the first broken clause gives the number, and the place in the file
 unfoldable pub settle : Check → ℕ → Walk → Step
-settle Fine at next = Took next
-settle (Broken c) at next = Refused c.number (at + c.place)
+settle (Ok tt) at next = Took next
+settle (Err c) at next = Refused c.number (at + c.place)
 
 -- what a record says where it is due: the reader finds it in the file, the writer is handed it
 unfoldable pub take_generic : Generic → Walk → Step

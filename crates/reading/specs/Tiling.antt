@@ -2,7 +2,7 @@
 -- stretch, each of which keeps its rules.
 use Rattle.std.specs.Prelude.{ℕ, suc, ◌+◌, ◌-◌, List, [], ◌∷◌, ◌≡◌}
 use Rattle.rules.specs.Masks.{with_bit}
-use Rattle.rules.specs.declared.check.Check.TheVariants.{Fine}
+use Rattle.std.specs.Prelude.{Ok}
 use Rattle.moment.specs.declared.MomentDue.{MomentDue}
 use Rattle.radial.specs.declared.RadialDue.{RadialDue}
 use Rattle.moment.specs.Moment.{moment_at, moment_check, moment_size}
@@ -16,7 +16,7 @@ due_with mask sizes seen left todo = record { mask = mask; sizes = sizes; seen =
 -- `todo` moments of the file f stand from place `at` on, one behind the other, up to `end`, and each keeps its rules
 pub data Tiled (f : List ℕ) (mask sizes : ℕ) : ℕ → ℕ → ℕ → ℕ → ℕ → Type 0 where
   none : {seen left end : ℕ} → Tiled f mask sizes seen left 0 end end
-  more : {seen left todo at end : ℕ} → moment_check (moment_at f at) (due_with mask sizes seen left (suc todo)) ≡ Fine
+  more : {seen left todo at end : ℕ} → moment_check (moment_at f at) (due_with mask sizes seen left (suc todo)) ≡ (Ok tt)
       → Tiled f mask sizes (with_bit seen (moment_at f at).data_type) (left - (moment_size + (moment_at f at).length)) todo (at + moment_size + (moment_at f at).length) end
       → Tiled f mask sizes seen left (suc todo) at end
 
@@ -24,7 +24,7 @@ pub data Tiled (f : List ℕ) (mask sizes : ℕ) : ℕ → ℕ → ℕ → ℕ �
 pub record WholeRadial (f : List ℕ) (s : Stretch) : Type 0 where
   pub against : RadialDue
   pub cut : s.cut ≡ against.cut
-  pub header : radial_check (radial_at f s.start) against ≡ Fine
+  pub header : radial_check (radial_at f s.start) against ≡ (Ok tt)
   pub mask : ℕ
   pub sizes : ℕ
   pub moments : Tiled f mask sizes 0 (radial_at f s.start).length_of_data (radial_at f s.start).moment_number (s.start + radial_size) s.end

@@ -1,14 +1,14 @@
 -- A block is fine exactly when each of its rules holds, and broken by the first broken clause of the first rule that does not. Assumes
 -- nothing.
-use mathlib.Core.Path.{◌≡◌, refl, sym, subst, ◌∙◌}
+use mathlib.Core.Path.{◌≡◌, refl, sym, subst, ap, ◌∙◌}
 use mathlib.Core.Bool.{Bool, true, false}
 use mathlib.Core.List.{List, [], ◌∷◌}
 use Prim.Native.Nat.{ℕ, suc, ◌+◌, ◌<◌}
 use native.Mathlib.Omega.{arith}
 use borrow.Author.Tests.{ne_eqb}
-use Rattle.rules.specs.declared.check.Check.TheVariants.{Fine, Broken}
+use Rattle.std.specs.Prelude.{Ok, Err, IsErrAnd}
 use Rattle.rules.specs.declared.check.Clause.{Clause}
-use Rattle.rules.specs.Check.{Rule, clause_of, every_of, every, holds, breaks_from, breaks, also, judge, verdict, Hold, FirstClause, broken, kept, First, here, behind}
+use Rattle.rules.specs.Check.{Check, Rule, clause_of, every_of, every, holds, breaks_from, breaks, also, judge, verdict, Hold, FirstClause, broken, kept, First, here, behind}
 
 -- ---- the clauses of a rule
 
@@ -61,7 +61,7 @@ first-clause r f = let x = first-from 0 f in let s = x.0 in (omega arith, x.1, e
 -- ---- the rules of a block
 
 -- the first broken rule decides, whatever follows
-stays : (c : Clause) (rs : List Rule) → judge (Broken c) rs ≡ Broken c
+stays : (c : Clause) (rs : List Rule) → judge (Err c) rs ≡ Err c
 unfolding also
 stays c [] = refl
 stays c (r ∷ rs) = stays c rs
@@ -71,7 +71,7 @@ pub on : (r : Rule) (rs : List Rule) → breaks r.clauses ≡ 0 → verdict (r �
 unfolding also
 on r rs e = rw e
 
-pub off : (r : Rule) (rs : List Rule) (k : ℕ) → breaks r.clauses ≡ k → 0 < k → verdict (r ∷ rs) ≡ Broken (clause_of r k)
+pub off : (r : Rule) (rs : List Rule) (k : ℕ) → breaks r.clauses ≡ k → 0 < k → verdict (r ∷ rs) ≡ Err (clause_of r k)
 unfolding also
 off r rs k e h = rw (e, ne_eqb k 0 (λ z. omega arith)) (stays (clause_of r k) rs)
 
@@ -83,29 +83,29 @@ held r h = go (told r)
     go (keeps k e) = e
     go (fails k f e x) = absurd (let z : ◌≡◌ {A = ℕ} 0 1 = cc in omega arith)
 
-pub all_hold : (rs : List Rule) → verdict rs ≡ Fine → Hold rs
+pub all_hold : (rs : List Rule) → verdict rs ≡ (Ok tt) → Hold rs
 all_hold [] e = tt
 all_hold (r ∷ rs) e = go (told r) (λ f. all_hold rs f)
   where
-    go : Told r → (verdict rs ≡ Fine → Hold rs) → Hold (r ∷ rs)
+    go : Told r → (verdict rs ≡ (Ok tt) → Hold rs) → Hold (r ∷ rs)
     go (keeps h b) later = (h, later (sym (on r rs b) ∙ e))
     go (fails k h b f) later = let g = off r rs (suc k) b (omega arith) in absurd (let z : ◌≡◌ {A = ℕ} 0 1 = cc in omega arith)
 
 -- and where each holds, the block is fine
-pub fine-if : (rs : List Rule) → Hold rs → verdict rs ≡ Fine
+pub fine-if : (rs : List Rule) → Hold rs → verdict rs ≡ (Ok tt)
 fine-if [] h = refl
 fine-if (r ∷ rs) h = on r rs (held r h.0) ∙ fine-if rs h.1
 
 -- a block is broken by a clause exactly where that is its first broken one
-pub first-decides : {rs : List Rule} {c : Clause} → First rs c → verdict rs ≡ Broken c
+pub first-decides : {rs : List Rule} {c : Clause} → First rs c → verdict rs ≡ Err c
 first-decides (here r rs k f) = let x = first-clause r f in off r rs k x.0 x.1
 first-decides (behind r rs h f) = on r rs (held r h) ∙ first-decides f
 
-pub decided-first : (rs : List Rule) (c : Clause) → verdict rs ≡ Broken c → First rs c
+pub decided-first : (rs : List Rule) (c : Clause) → verdict rs ≡ Err c → First rs c
 decided-first [] c e = absurd (let z : ◌≡◌ {A = ℕ} 0 1 = cc in omega arith)
 decided-first (r ∷ rs) c e = go (told r) (λ f. decided-first rs c f)
   where
-    go : Told r → (verdict rs ≡ Broken c → First rs c) → First (r ∷ rs) c
+    go : Told r → (verdict rs ≡ Err c → First rs c) → First (r ∷ rs) c
     go (keeps h b) later = behind r rs h (later (sym (on r rs b) ∙ e))
     go (fails k h b f) later =
         let g = off r rs (suc k) b (omega arith) in
@@ -116,3 +116,13 @@ decided-first (r ∷ rs) c e = go (told r) (λ f. decided-first rs c f)
 pub held_first : {rs : List Rule} {c : Clause} → First rs c → Hold rs → ⊥
 held_first (here r rs k f) h = let x = (first-clause r f).2 in let y = h.0 in let z : ◌≡◌ {A = ℕ} 0 1 = cc in omega arith
 held_first (behind r rs e f) h = held_first f h.1
+
+-- what `?` hands on is the clause that was broken
+pub handed-on : {r : Check} {c : Clause} → IsErrAnd r (λ k. k ≡ c) → r ≡ Err c
+handed-on {r = Ok u} h = absurd h
+handed-on {r = Err k} h = ap Err h
+
+-- and no rule behind it changes that
+pub unmoved : (c : Clause) (k n p s : ℕ) → also (Err c) k n p s ≡ Err c
+unfolding also
+unmoved c k n p s = refl

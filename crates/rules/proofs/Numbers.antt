@@ -86,9 +86,9 @@ unfolding within
 over lo hi x a = rw (lt-leb x hi (omega arith)) (and-false (leb lo x))
 
 -- one more than what was counted before it, and not past the most: which of the two clauses is broken first, as the tests decide
-pub right-count : (most before x : ℕ) → most < 2147483648 → 1 ≤ x → x ≤ most → x - 1 ≡ before → breaks (count_clauses most before x) ≡ 0
+pub right-count : (most before x : ℕ) → x < 2147483648 → 1 ≤ x → x ≤ most → x - 1 ≡ before → breaks (count_clauses most before x) ≡ 0
 unfolding count_clauses
-right-count most before x small a b e = rw (exactly-clear w32 (before + 1) x (omega arith), eq-eqb x (before + 1) (omega arith), le-leb (before + 1) most (omega arith))
+right-count most before x small a b e = rw (exactly-clear w32 (before + 1) x small, eq-eqb x (before + 1) (omega arith), le-leb (before + 1) most (omega arith))
 
 pub far-count : (most before x : ℕ) → x < 2147483648 → most < x → x - 1 ≡ before → breaks (count_clauses most before x) ≡ 2
 unfolding count_clauses

@@ -1,9 +1,7 @@
 -- The rules of a block: a list in byte order, of which the first that is broken decides (document 01, "Field rules and
 -- refusal numbers"). A rule has a clause for each way in which the table says that its field is refused, in the table's order; of a
 -- broken rule the first broken clause is cited (document 02, #104).
-use Rattle.std.specs.Prelude.{ℕ, suc, Bool, true, false, cond, ◌&&◌, List, [], ◌∷◌, ◌≡◌, eqb}
-use Rattle.rules.specs.declared.check.Check.{Check}
-use Rattle.rules.specs.declared.check.Check.TheVariants.{Fine, Broken}
+use Rattle.std.specs.Prelude.{ℕ, suc, Bool, true, false, cond, ◌&&◌, List, [], ◌∷◌, ◌≡◌, eqb, Result, Ok, Err}
 use Rattle.rules.specs.declared.check.Clause.{Clause}
 
 -- a field's place in its block and its size in bytes, the refusal's number, and of each clause whether it is kept
@@ -41,17 +39,21 @@ breaks_from k (b ∷ bs) = cond b (breaks_from (suc k) bs) k
 abbrev pub breaks : List Bool → ℕ
 breaks bs = breaks_from 1 bs
 
+-- what rules say: that each is kept, or the first broken one's first broken clause
+abbrev pub Check : Type 0
+Check = Result (Unit {0}) Clause
+
 -- what the rules so far say, and one rule more, of which clause k is the first broken one
 unfoldable pub also : Check → ℕ → ℕ → ℕ → ℕ → Check
-also Fine k n p s = cond (eqb k 0) Fine (Broken (record { number = n; which = k; place = p; size = s }))
-also (Broken c) k n p s = Broken c
+also (Ok tt) k n p s = cond (eqb k 0) (Ok tt) (Err (record { number = n; which = k; place = p; size = s }))
+also (Err c) k n p s = Err c
 
 abbrev pub judge : Check → List Rule → Check
 judge v [] = v
 judge v (r ∷ rs) = judge (also v (breaks r.clauses) r.number r.place r.size) rs
 
 abbrev pub verdict : List Rule → Check
-verdict rs = judge Fine rs
+verdict rs = judge (Ok tt) rs
 
 -- each rule of a list holds
 abbrev pub Hold : List Rule → Type 0

@@ -2,8 +2,8 @@
 use Rattle.std.proofs.Common.{◌≡◌, ℕ, zero, suc, ◌+◌, ◌*◌, ◌≤◌, true, cond, eqb, List, [], ◌∷◌, ◌++◌, length, sym, refl, ap, ◌∙◌, ap₂, arith, length-append}
 use Rattle.le.specs.Le.{Bytes, run}
 use Rattle.le.proofs.Laws.{part_in}
-use Rattle.rules.specs.declared.check.Check.{Check}
-use Rattle.rules.specs.declared.check.Check.TheVariants.{Fine, Broken}
+use Rattle.rules.specs.Check.{Check}
+use Rattle.std.specs.Prelude.{Ok, Err}
 use Rattle.generic.specs.declared.Generic.{Generic}
 use Rattle.generic.specs.Generic.{GenericFits}
 use Rattle.site.specs.declared.Site.{Site}
@@ -64,10 +64,10 @@ module _ (A C : List ℕ) (at : ℕ) (there : at + 2432 ≤ length A) where
       over x f = unless_refused o.answer o (unless_broken (old_check x) at o (blocks x f))
 
       go : (x : Check) → old_check (old_at A at) ≡ x → unless_broken (old_check (old_at A at)) at o (blocks (old_at A at) (A ++ C)) ≡ unless_broken (old_check (old_at A at)) at o (blocks (old_at A at) A)
-      go Fine e =
+      go (Ok tt) e =
           ap (λ (l : List Pair). unless_broken (old_check (old_at A at)) at o (put_all (radial_blocks (radial_from (old_at A at) (o.walk.count.whole + 1) (o.walk.count.in_cut + 1)) l) o))
           (same-moments (old_at A at) (rules-hold (old_at A at) e).1.1.0)
-      go (Broken b) e =
+      go (Err b) e =
           ap (λ (x : Check). unless_broken x at o (blocks (old_at A at) (A ++ C))) e ∙ sym (ap (λ (x : Check). unless_broken x at o (blocks (old_at A at) A)) e)
 
 same_first : (A C : List ℕ) (o : Outcome) (k : ℕ) → k * 2432 ≤ length A → take_first k (A ++ C) o ≡ take_first k A o

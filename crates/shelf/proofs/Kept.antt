@@ -2,7 +2,7 @@
 use Rattle.std.proofs.Common.{◌≡◌, ℕ, ◌+◌, ◌*◌, ◌/◌, ◌%◌, ◌<◌, ◌≤◌, Bool, true, false, cond, eqb, ◌⊎◌, List, [], ◌∷◌, ◌++◌, length, get_or, sym, refl, ap, ◌∙◌, ap₂, inl, inr, ⊎_elim, append-nil, mod-eq_of_lt, arith, le-ltb, lt-ltb, eq-eqb, ne_eqb}
 use Rattle.le.specs.Le.{Bytes, part, run}
 use Rattle.le.proofs.Laws.{length_part}
-use Rattle.rules.specs.declared.check.Check.TheVariants.{Fine}
+use Rattle.std.specs.Prelude.{Ok}
 use Rattle.moment.specs.declared.Moment.{Moment}
 use Rattle.gates.specs.declared.Coding.{Coding}
 use Rattle.gates.specs.Codes.{codes_of}
@@ -27,7 +27,7 @@ use Rattle.shelf.specs.Brought.{type_of, old_code, Means, HeaderKeeps, MomentKee
 
 -- ---- the header
 
-pub header-keeps : (o : OldRadial) (sequence number : ℕ) → OldFits o → old_check o ≡ Fine → HeaderKeeps o (radial_from o sequence number)
+pub header-keeps : (o : OldRadial) (sequence number : ℕ) → OldFits o → old_check o ≡ (Ok tt) → HeaderKeeps o (radial_from o sequence number)
 unfolding radial_from
 header-keeps o sequence number h fine =
     let time = (rules-hold o fine).1.0 in

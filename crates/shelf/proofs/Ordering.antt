@@ -3,8 +3,8 @@ use Rattle.std.proofs.Common.{◌≡◌, ℕ, zero, suc, ◌*◌, ◌/◌, ◌%�
 use native.Mathlib.Decide.{dec_lt}
 use mathlib.Core.Logic.{dite}
 use Rattle.le.proofs.Tests.{both, fails}
-use Rattle.rules.specs.declared.check.Check.{Check}
-use Rattle.rules.specs.declared.check.Check.TheVariants.{Fine, Broken}
+use Rattle.rules.specs.Check.{Check}
+use Rattle.std.specs.Prelude.{Ok, Err}
 use Rattle.rules.specs.declared.check.Clause.{Clause}
 use Rattle.rules.specs.Check.{Rule, clause_of, holds, verdict}
 use Rattle.rules.proofs.Judged as judged
@@ -30,7 +30,7 @@ use Rattle.shelf.specs.Order.{InTime, OutOfTime, Counted, Miscounted, Resolved, 
 -- the first rule that does not hold gives its number
 record Breaks (c : Check) (n : ℕ) : Type 0 where
   clause : Clause
-  is : c ≡ Broken clause
+  is : c ≡ Err clause
   number : clause.number ≡ n
 
 data Leads : List Rule → ℕ → Type 0 where
@@ -93,7 +93,7 @@ own-breaks : (o : OldRadial) {n : ℕ} → RefusedBy o n → Breaks (old_check o
 unfolding old_check
 own-breaks o r = breaks (own-leads o r)
 
-own-fine : (o : OldRadial) → Unrefused o → old_check o ≡ Fine
+own-fine : (o : OldRadial) → Unrefused o → old_check o ≡ (Ok tt)
 unfolding old_check
 own-fine o h = judged.fine-if (old_rules o) (eq-eqb o.mark 1 h.mark, (in-time o h.time, (well-counted o h.counts, (resolved o h.resolution, tt))))
 

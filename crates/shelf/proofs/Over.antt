@@ -3,8 +3,8 @@ use Rattle.std.proofs.Common.{◌≡◌, ℕ, ◌+◌, ◌-◌, ◌*◌, ◌<◌
 use mathlib.Core.Path.{subst⁻¹}
 use Rattle.le.specs.Le.{Bytes, part, run}
 use Rattle.le.proofs.Laws.{length_part, part-past, part_in, part-take, stored-in}
-use Rattle.rules.specs.declared.check.Check.{Check}
-use Rattle.rules.specs.declared.check.Check.TheVariants.{Fine, Broken}
+use Rattle.rules.specs.Check.{Check}
+use Rattle.std.specs.Prelude.{Ok, Err}
 use Rattle.cut.specs.declared.Cut.{Cut}
 use Rattle.cut.specs.Cut.{cut_of, cut_at}
 use Rattle.moment.specs.Moment.{MomentFits}
@@ -195,8 +195,8 @@ module _ (c f : List ℕ) (at : ℕ) (bytes : Bytes f) (o : Outcome) where
           ≡ unless_bad x at (put_of o)
           (settle_moments (length o.room) (old_at f at) (settle_in (front c) (length o.room) (radial (radial_next (old_at f at) o.walk)) (put_of o))))
           × (length (unless_broken x at o (put_all (old_blocks f at o.walk) o)).room ≡ length o.room)
-      by-check Fine s = (blocks-settle s, (all_blocks s).room)
-      by-check (Broken k) s = (refl, refl)
+      by-check (Ok tt) s = (blocks-settle s, (all_blocks s).room)
+      by-check (Err k) s = (refl, refl)
 
       go : (x : Answer) → o.answer ≡ x → OverSettles
       go Taken e =
@@ -241,7 +241,7 @@ radial-plan r ps o t =
 module _ (f : List ℕ) (at : ℕ) (o : Outcome) (taken : (take_over f at o).answer ≡ Taken) where
   pub record TakenOver : Type 0 where
     pub before : o.answer ≡ Taken
-    pub fine : old_check (old_at f at) ≡ Fine
+    pub fine : old_check (old_at f at) ≡ (Ok tt)
     pub is : take_over f at o ≡ put_all (old_blocks f at o.walk) o
     pub all : (put_all (old_blocks f at o.walk) o).answer ≡ Taken
 
@@ -253,12 +253,12 @@ module _ (f : List ℕ) (at : ℕ) (o : Outcome) (taken : (take_over f at o).ans
       blocks = put_all (old_blocks f at o.walk) o
 
       go : (x : Answer) → o.answer ≡ x → (y : Check) → old_check (old_at f at) ≡ y → TakenOver
-      go Taken e Fine k =
+      go Taken e (Ok tt) k =
           let is : take_over f at o ≡ blocks =
           ap (λ (x : Answer). unless_refused x o (unless_broken (old_check (old_at f at)) at o blocks)) e ∙ ap (λ (y : Check). unless_broken y at o blocks) k in
           record { before = e; fine = k; is = is; all = ap (λ (x : Outcome). x.answer) (sym is) ∙ taken }
-      go Taken e (Broken b) k =
-          let is : take_over f at o ≡ unless_broken (Broken b) at o blocks =
+      go Taken e (Err b) k =
+          let is : take_over f at o ≡ unless_broken (Err b) at o blocks =
           ap (λ (x : Answer). unless_refused x o (unless_broken (old_check (old_at f at)) at o blocks)) e ∙ ap (λ (y : Check). unless_broken y at o blocks) k in
           absurd (let r : Refused b.number at ≡ Taken = ap (λ (x : Outcome). x.answer) (sym is) ∙ taken in let z : ◌≡◌ {A = ℕ} 0 1 = cc in omega arith)
       go (Refused n p) e y k =

@@ -2,8 +2,8 @@
 -- all of them or none.
 use Rattle.std.specs.Prelude.{ℕ, zero, suc, ◌+◌, ◌*◌, ◌/◌, cond, List, [], ◌∷◌, ◌++◌, length, drop, ◌==◌}
 use Rattle.le.specs.Le.{part, run}
-use Rattle.rules.specs.declared.check.Check.{Check}
-use Rattle.rules.specs.declared.check.Check.TheVariants.{Fine, Broken}
+use Rattle.rules.specs.Check.{Check}
+use Rattle.std.specs.Prelude.{Ok, Err}
 use Rattle.cut.specs.Cut.{cut_at, cut_size}
 use Rattle.generic.specs.declared.Generic.{Generic}
 use Rattle.radial.specs.declared.Radial.{Radial}
@@ -65,8 +65,8 @@ old_blocks f at w = radial_blocks (old_radial f at w) (moments_of (old_at f at) 
 
 -- a rule of the old radial's own that is broken is refused at the radial's place in the old file, before the writer is asked
 unfoldable pub unless_broken : Check → ℕ → Outcome → Outcome → Outcome
-unless_broken Fine at before next = next
-unless_broken (Broken c) at before next = record { answer = Refused c.number at; walk = before.walk; room = before.room }
+unless_broken (Ok tt) at before next = next
+unless_broken (Err c) at before next = record { answer = Refused c.number at; walk = before.walk; room = before.room }
 
 -- the old radial at a place taken over, where nothing is refused yet
 abbrev pub take_over : List ℕ → ℕ → Outcome → Outcome

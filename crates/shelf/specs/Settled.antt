@@ -2,8 +2,8 @@
 -- laid down. That this is the import as it is defined (`Import`) is proved; nothing here has to be believed.
 use Rattle.std.specs.Prelude.{ℕ, zero, suc, ◌+◌, ◌*◌, ◌/◌, ◌%◌, ◌^◌, cond, List, [], ◌++◌, length, replicate, ◌==◌}
 use Rattle.le.specs.Le.{run, stored}
-use Rattle.rules.specs.declared.check.Check.{Check}
-use Rattle.rules.specs.declared.check.Check.TheVariants.{Fine, Broken}
+use Rattle.rules.specs.Check.{Check}
+use Rattle.std.specs.Prelude.{Ok, Err}
 use Rattle.cut.specs.Cut.{cut_at, cut_size}
 use Rattle.generic.specs.declared.Generic.{Generic}
 use Rattle.radial.specs.declared.Radial.{Radial}
@@ -86,8 +86,8 @@ abbrev pub settle_moments : ℕ → OldRadial → Put → Put
 settle_moments room o p = settle_moment room Width o (settle_moment room Velocity o (settle_moment room Reflectivity o p))
 
 unfoldable pub unless_bad : Check → ℕ → Put → Put → Put
-unless_bad Fine at before next = next
-unless_bad (Broken c) at before next = record { answer = Refused c.number at; walk = before.walk }
+unless_bad (Ok tt) at before next = next
+unless_bad (Err c) at before next = record { answer = Refused c.number at; walk = before.walk }
 
 abbrev pub settle_over : List ℕ → ℕ → OldRadial → ℕ → Put → Put
 settle_over c room o at p =

@@ -3,7 +3,7 @@ use Rattle.std.specs.Prelude.{ℕ, ◌<◌, ◌^◌, ◌≡◌, List, [], ◌∷
 use Rattle.le.specs.Le.{le, bytes, part, run}
 use Rattle.rules.specs.Ranges.{angle}
 use Rattle.site.specs.declared.Site.{Site}
-use Rattle.rules.specs.declared.check.Check.{Check}
+use Rattle.rules.specs.Check.{Check}
 use Rattle.rules.specs.Check.{Rule, rule, verdict}
 
 -- how many bytes the block has (table 2-3)

@@ -6,7 +6,7 @@ ghost use Rattle.le.specs.Le.{stored, patch};
 ghost use Rattle.site.specs.Site.{site_of, site_at, site_bytes, site_size, site_check};
 
 use rules::angles;
-use rules::check::{Check, also};
+use rules::check::{Clause, rule};
 
 #[derive(Clone, Copy)]
 pub struct Site {
@@ -120,24 +120,21 @@ impl Site {
     }
 
     // The first broken clause of the first broken rule of the block.
-    pub fn check(self) -> Check
+    pub fn check(self) -> Result<(), Clause>
         ensures { result ≡ site_check self }
     {
-        let v = also(
-            Check::Fine,
+        rule(
             angles::latitude_ok(self.latitude),
             3,
             Self::LATITUDE as u8,
             4,
-        );
-        let v = also(
-            v,
+        )?;
+        rule(
             angles::longitude_ok(self.longitude),
             4,
             Self::LONGITUDE as u8,
             4,
-        );
-        v
+        )
     }
 }
 

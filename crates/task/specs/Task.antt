@@ -4,7 +4,7 @@ use Rattle.le.specs.Le.{le, bytes, part, run, int}
 use Rattle.rules.specs.Ranges.{among, not_below_zero}
 use Rattle.rules.specs.States.{cut_number_clauses}
 use Rattle.task.specs.declared.Task.{Task}
-use Rattle.rules.specs.declared.check.Check.{Check}
+use Rattle.rules.specs.Check.{Check}
 use Rattle.rules.specs.Check.{Rule, rule, verdict}
 
 -- how many bytes the block has (table 2-4)

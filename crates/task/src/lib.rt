@@ -1,13 +1,13 @@
 // The task block (table 2-4): 256 bytes, every one of them in a field. INT, SHORT and FLOAT fields are carried as their bits.
 #![tactic(auto)]
 
-ghost use Rattle.std.specs.Prelude.{◌≡◌, ◌+◌, ◌≤◌, length, pos};
-ghost use Rattle.le.specs.Le.{stored, patch, int};
-ghost use Rattle.rules.specs.Ranges.{among};
+ghost use Rattle.std.specs.Prelude.{◌≡◌, ◌+◌, ◌≤◌, length};
+ghost use Rattle.le.specs.Le.{stored, patch};
 ghost use Rattle.task.specs.Task.{task_of, task_at, task_bytes, task_size, task_check};
 
-use rules::check::{Check, also, also_clauses};
-use rules::{ranges, states};
+use rules::check::{Clause, clauses, rule};
+use rules::ranges::{among, not_below_zero};
+use rules::states;
 
 #[derive(Clone, Copy)]
 pub struct Task {
@@ -146,32 +146,28 @@ impl Task {
     }
 
     // The first broken clause of the first broken rule of the block.
-    pub fn check(self) -> Check
+    pub fn check(self) -> Result<(), Clause>
         ensures { result ≡ task_check self }
     {
-        let v = also(
-            Check::Fine,
-            polarization_ok(self.polarization),
+        rule(
+            among(1, 4, self.polarization),
             5,
             Self::POLARIZATION as u8,
             4,
-        );
-        let v = also(v, scan_type_ok(self.scan_type), 6, Self::SCAN_TYPE as u8, 4);
-        let v = also(
-            v,
-            ranges::not_below_zero(self.start_time),
+        )?;
+        rule(among(0, 6, self.scan_type), 6, Self::SCAN_TYPE as u8, 4)?;
+        rule(
+            not_below_zero(self.start_time),
             7,
             Self::START_TIME as u8,
             4,
-        );
-        let v = also_clauses(
-            v,
+        )?;
+        clauses(
             states::cut_number_breaks(self.scan_type, self.cut_number),
             8,
             Self::CUT_NUMBER as u8,
             4,
-        );
-        v
+        )
     }
 }
 
@@ -180,24 +176,4 @@ fn put_reserved(room: &mut [u8], at: usize, x: &[u8; 40])
     ensures { (room.new ≡ stored (length x.now) room.old at x.now) × (length x.now ≡ 40) }
 {
     le::put(room, at, x);
-}
-
-// Number 5 (table 2-4).
-fn polarization_ok(x: u32) -> bool
-    ensures { result ≡ among (pos 1) (pos 4) (int x) }
-{
-    match x {
-        1..=4 => true,
-        _ => false,
-    }
-}
-
-// Number 6 (table 2-4).
-fn scan_type_ok(x: u32) -> bool
-    ensures { result ≡ among (pos 0) (pos 6) (int x) }
-{
-    match x {
-        0..=6 => true,
-        _ => false,
-    }
 }

@@ -12,8 +12,8 @@ use Rattle.le.proofs.Laws.{length_part}
 use Rattle.le.proofs.Here.{drop-bytes, cut-here}
 use Rattle.le.proofs.Coded.{Coded, stood}
 use Rattle.rules.specs.Check.{Rule, verdict, Hold, First}
-use Rattle.rules.specs.declared.check.Check.{Check}
-use Rattle.rules.specs.declared.check.Check.TheVariants.{Fine, Broken}
+use Rattle.rules.specs.Check.{Check}
+use Rattle.std.specs.Prelude.{Ok, Err}
 use Rattle.rules.proofs.Judged.{all_hold, decided-first}
 use Rattle.cut.specs.Cut.{cut_at, cut_rules}
 use Rattle.generic.specs.Generic.{generic_at, generic_rules}
@@ -46,8 +46,8 @@ by-rules : {A : Type 0} (K : Coded A) (a : Accepted) (rest : List ℕ) → Bytes
 by-rules K a rest bs rules size some same next = dite (dec_le (due_size a) (length rest)) (λ h. go h (verdict (rules (K.dec (part K.size rest 0)))) refl) (λ h. stops _ (missing a rest (omega arith)))
   where
     go : due_size a ≤ length rest → (v : Check) → verdict (rules (K.dec (part K.size rest 0))) ≡ v → Tried a rest
-    go h (Broken c) e = stops _ (broken a rest c h (subst (λ (l : List Rule). First l c) (sym same) (decided-first (rules (K.dec (part K.size rest 0))) c e)))
-    go h Fine e =
+    go h (Err c) e = stops _ (broken a rest c h (subst (λ (l : List Rule). First l c) (sym same) (decided-first (rules (K.dec (part K.size rest 0))) c e)))
+    go h (Ok tt) e =
         let r = K.dec (part K.size rest 0) in
         let g = drop (0 + K.size) rest in
         let s = stood K rest bs 0 (omega arith) in

@@ -9,7 +9,7 @@ use lib.ListN.{length}
 use Rattle.le.specs.Le.{bytes, part, run}
 use Rattle.le.proofs.Laws.{length_part}
 use Rattle.rules.specs.Check.{Hold, also, verdict}
-use Rattle.rules.specs.declared.check.Check.TheVariants.{Fine}
+use Rattle.std.specs.Prelude.{Ok}
 use Rattle.rules.proofs.Judged.{all_hold}
 use Rattle.rules.specs.Ranges.{among, within, not_below_zero, count_clauses, between, angle}
 use Rattle.rules.specs.States.{rhi, most_cuts, cut_number_clauses, opening, closing, state_ok}
@@ -121,8 +121,8 @@ cut-rules mask = all_hold (cut_rules (small_cut mask)) refl
 
 -- a radial of these numbers is one of its cut where its header and its moment keep their rules
 radial-ok : (cuts mask k before in_cut state n i type : ℕ) → RadialFits (small-radial state n i k) → MomentFits (small-moment type)
-    → verdict (radial_rules (small-radial state n i k) (judged_radial (small-task cuts) k before in_cut)) ≡ Fine
-    → verdict (moment_rules (small-moment type) (judged (small_cut mask) (small-radial state n i k) [])) ≡ Fine
+    → verdict (radial_rules (small-radial state n i k) (judged_radial (small-task cuts) k before in_cut)) ≡ (Ok tt)
+    → verdict (moment_rules (small-moment type) (judged (small_cut mask) (small-radial state n i k) [])) ≡ (Ok tt)
     → RadialOk (small-task cuts) (small_cut mask) k before in_cut (small-whole state n i k type)
 unfolding small-whole small-radial small-moment
 radial-ok cuts mask k before in_cut state n i type fits fit r m =

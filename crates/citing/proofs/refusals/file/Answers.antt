@@ -65,33 +65,33 @@ field-requires c =
     let f = c.args.file.now in
     let w = c.stop-w.result in
     let k = inside f w c.stop-w.ensures in
-    record { at_bound = omega arith; fact = clause-sized f w _ (sym c.check_at.ensures ∙ c.in-Broken.is) }
+    record { at_bound = omega arith; fact = clause-sized f w _ (sym c.check_at.ensures ∙ c.in-Err.is) }
 
-pub returns-in-Fine : goal.returns-in-Fine
+pub returns-in-Ok : goal.returns-in-Ok
 unfolding by_rules
-returns-in-Fine c =
+returns-in-Ok c =
     let f = c.args.file.now in
     let w = c.stop-w.result in
     let k = inside f w c.stop-w.ensures in
     let s = c.size_at-size.ensures in
     let h = c.if-here-size.false in
     ap why.Hopeless c.block_due-block.ensures
-    ∙ ap (by_rules f w) (sym c.in-Fine.is ∙ c.check_at.ensures)
+    ∙ ap (by_rules f w) (sym c.in-Ok.is ∙ c.check_at.ensures)
     ∙ sym (why-here f w (sym c.is_end.ensures ∙ c.if-is_end.false) (omega arith))
     ∙ ap (why_at f) c.stop-w.ensures
 
-pub returns-in-Broken : goal.returns-in-Broken
+pub returns-in-Err : goal.returns-in-Err
 unfolding by_rules block_due
-returns-in-Broken c =
+returns-in-Err c =
     let f = c.args.file.now in
     let w = c.stop-w.result in
-    let l = c.in-Broken.clause in
+    let l = c.in-Err.clause in
     let k = inside f w c.stop-w.ensures in
     let s = c.size_at-size.ensures in
     let h = c.if-here-size.false in
     let i = sym c.is_end.ensures ∙ c.if-is_end.false in
     ap₂ (λ (b : Block) (x : Field). why.Broken (record { place = w.at + l.place; clause = l; block = b; field = x })) c.block_due-block.ensures
     (c.field.ensures ∙ ap (λ (n : ℕ). field_at f (n + l.place) l.size) (sym (due-place f w i)))
-    ∙ ap (by_rules f w) (sym c.in-Broken.is ∙ c.check_at.ensures)
+    ∙ ap (by_rules f w) (sym c.in-Err.is ∙ c.check_at.ensures)
     ∙ sym (why-here f w i (omega arith))
     ∙ ap (why_at f) c.stop-w.ensures

@@ -1,10 +1,10 @@
 use Rattle.reading.specs.Step.{settle}
 use Rattle.reading.proofs.step.settle.Goals as goal
 
-pub returns-in-Fine : goal.returns-in-Fine
+pub returns-in-Ok : goal.returns-in-Ok
 unfolding settle
-returns-in-Fine c = rw c.in-Fine.is
+returns-in-Ok c = rw c.in-Ok.is
 
-pub returns-in-Broken : goal.returns-in-Broken
+pub returns-in-Err : goal.returns-in-Err
 unfolding settle
-returns-in-Broken c = rw c.in-Broken.is
+returns-in-Err c = rw c.in-Err.is

@@ -1,8 +1,8 @@
 -- Taken means that no rule of the old radial's own is broken, so that its counts are such as `lay` asks for. Assumes nothing.
 use Rattle.std.proofs.Common.{◌≡◌, ℕ, true, List, length, sym, refl, ap, ◌∙◌, arith}
 use Rattle.le.specs.Le.{run}
-use Rattle.rules.specs.declared.check.Check.{Check}
-use Rattle.rules.specs.declared.check.Check.TheVariants.{Fine, Broken}
+use Rattle.rules.specs.Check.{Check}
+use Rattle.std.specs.Prelude.{Ok, Err}
 use Rattle.walk.specs.declared.due.Walk.{Walk}
 use Rattle.writer.specs.declared.order.Answer.{Answer}
 use Rattle.writer.specs.declared.order.Answer.TheVariants.{Taken, Refused}
@@ -16,10 +16,10 @@ use Rattle.shelf.specs.Import.{moments_of}
 use Rattle.shelf.specs.Settled.{Lay, unless, unless_bad, settle_over, settled_over, radial_next, laid_bytes, laid_if, bytes_next, lay_over}
 use Rattle.shelf.proofs.lay.lay_over.Goals as goal
 
-fine : (k : Check) (at : ℕ) (before next : Put) → (unless_bad k at before next).answer ≡ Taken → k ≡ Fine
+fine : (k : Check) (at : ℕ) (before next : Put) → (unless_bad k at before next).answer ≡ Taken → k ≡ (Ok tt)
 unfolding unless_bad
-fine Fine at before next e = refl
-fine (Broken c) at before next e = absurd (let z : ◌≡◌ {A = ℕ} 0 1 = cc in omega arith)
+fine (Ok tt) at before next e = refl
+fine (Err c) at before next e = absurd (let z : ◌≡◌ {A = ℕ} 0 1 = cc in omega arith)
 
 -- what q, which is settled of the radial o that stands there, says of what is laid down
 module _ (c f : List ℕ) (at : ℕ) (w : Walk) (room : List ℕ) (o : OldRadial) (here : o ≡ old_at f at)

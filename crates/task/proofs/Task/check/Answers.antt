@@ -1,15 +1,20 @@
+use mathlib.Core.Path.{refl}
+use Rattle.rules.proofs.Judged.{handed-on, unmoved}
 use Rattle.task.specs.Task.{task_check}
 use Rattle.task.proofs.Task.check.Goals as goal
 
+pub returns-in_err-rule : goal.returns-in_err-rule
+unfolding task_check
+returns-in_err-rule c = rw (← c.among.ensures, ← c.rule.ensures, c.in_err-rule.was, handed-on c.from_residual.ensures.1) (simp unmoved refl)
+
+pub returns-in_err-rule-2 : goal.returns-in_err-rule-2
+unfolding task_check
+returns-in_err-rule-2 c = rw (← c.among.ensures, ← c.rule.ensures, c.in_ok-rule.was, ← c.among-2.ensures, ← c.rule-2.ensures, c.in_err-rule-2.was, handed-on c.from_residual-in_err-rule-2.ensures.1) (simp unmoved refl)
+
+pub returns-in_err-rule-3 : goal.returns-in_err-rule-3
+unfolding task_check
+returns-in_err-rule-3 c = rw (← c.among.ensures, ← c.rule.ensures, c.in_ok-rule.was, ← c.among-2.ensures, ← c.rule-2.ensures, c.in_ok-rule-2.was, ← c.not_below_zero.ensures, ← c.rule-3.ensures, c.in_err-rule-3.was, handed-on c.from_residual-in_err-rule-3.ensures.1) (simp unmoved refl)
+
 pub returns : goal.returns
 unfolding task_check
-returns c = rw (
-  c.also_clauses-v.ensures,
-  c.cut_number_breaks.ensures,
-  c.also-v-3.ensures,
-  c.not_below_zero.ensures,
-  c.also-v-2.ensures,
-  c.scan_type_ok.ensures,
-  c.also-v.ensures,
-  c.polarization_ok.ensures,
-)
+returns c = rw (← c.among.ensures, ← c.rule.ensures, c.in_ok-rule.was, ← c.among-2.ensures, ← c.rule-2.ensures, c.in_ok-rule-2.was, ← c.not_below_zero.ensures, ← c.rule-3.ensures, c.in_ok-rule-3.was, ← c.cut_number_breaks.ensures, ← c.clauses.ensures)
