@@ -154,10 +154,6 @@ impl Cut {
     fn decode(b: &[u8; 256]) -> Self
         ensures { result ≡ cut_of b.now }
     {
-        let mut mask_reserved = [0u8; 12];
-        le::copy_out(b, Self::MASK_RESERVED, &mut mask_reserved);
-        let mut reserved = [0u8; 72];
-        le::copy_out(b, Self::RESERVED, &mut reserved);
         Self {
             process_mode: le::u32_at(b, Self::PROCESS_MODE),
             wave_form: le::u32_at(b, Self::WAVE_FORM),
@@ -196,14 +192,14 @@ impl Cut {
             velocity_mask: le::u32_at(b, Self::VELOCITY_MASK),
             spectrum_width_mask: le::u32_at(b, Self::SPECTRUM_WIDTH_MASK),
             dp_mask: le::u32_at(b, Self::DP_MASK),
-            mask_reserved,
+            mask_reserved: le::bytes_at(b, Self::MASK_RESERVED),
             scan_sync: le::u32_at(b, Self::SCAN_SYNC),
             direction: le::u32_at(b, Self::DIRECTION),
             clutter_classifier: le::u16_at(b, Self::CLUTTER_CLASSIFIER),
             clutter_filter: le::u16_at(b, Self::CLUTTER_FILTER),
             clutter_notch_width: le::u16_at(b, Self::CLUTTER_NOTCH_WIDTH),
             clutter_window: le::u16_at(b, Self::CLUTTER_WINDOW),
-            reserved,
+            reserved: le::bytes_at(b, Self::RESERVED),
         }
     }
 
@@ -211,9 +207,7 @@ impl Cut {
     pub fn read(s: &[u8], at: usize) -> Self
         ensures { result ≡ cut_at s.now at }
     {
-        let mut b = [0u8; 256];
-        le::copy_out(s, at, &mut b);
-        Self::decode(&b)
+        Self::decode(&le::bytes_at(s, at))
     }
 
     // The record into a room at a place, where it fits; no other byte changes.
@@ -229,62 +223,72 @@ impl Cut {
         requires { at + cut_size ≤ length room.old }
         ensures { room.new ≡ patch room.old at (cut_bytes self) }
     {
-        let words = [
-            self.process_mode,
-            self.wave_form,
-            self.prf1,
-            self.prf2,
-            self.unfold_mode,
-            self.azimuth,
-            self.elevation,
-            self.start_angle,
-            self.end_angle,
-            self.angular_resolution,
-            self.scan_speed,
-            self.log_resolution,
-            self.doppler_resolution,
-            self.maximum_range1,
-            self.maximum_range2,
-            self.start_range,
-            self.sample1,
-            self.sample2,
-            self.phase_mode,
-            self.atmospheric_loss,
-            self.nyquist_speed,
-        ];
-        le::put_words(room, at, &words);
+        le::put_words(
+            room,
+            at,
+            &[
+                self.process_mode,
+                self.wave_form,
+                self.prf1,
+                self.prf2,
+                self.unfold_mode,
+                self.azimuth,
+                self.elevation,
+                self.start_angle,
+                self.end_angle,
+                self.angular_resolution,
+                self.scan_speed,
+                self.log_resolution,
+                self.doppler_resolution,
+                self.maximum_range1,
+                self.maximum_range2,
+                self.start_range,
+                self.sample1,
+                self.sample2,
+                self.phase_mode,
+                self.atmospheric_loss,
+                self.nyquist_speed,
+            ],
+        );
         le::put_u64(room, at + Self::MOMENTS_MASK, self.moments_mask);
         le::put_u64(room, at + Self::SIZE_MASK, self.size_mask);
-        let words = [
-            self.filter_mask,
-            self.sqi_threshold,
-            self.sig_threshold,
-            self.csr_threshold,
-            self.log_threshold,
-            self.cpa_threshold,
-            self.pmi_threshold,
-            self.dplog_threshold,
-            self.thresholds_reserved,
-            self.db_mask,
-            self.dbz_mask,
-            self.velocity_mask,
-            self.spectrum_width_mask,
-            self.dp_mask,
-        ];
-        le::put_words(room, at + Self::FILTER_MASK, &words);
-        let mask_reserved = self.mask_reserved;
-        put_mask_reserved(room, at + Self::MASK_RESERVED, &mask_reserved);
-        let words = [self.scan_sync, self.direction];
-        le::put_words(room, at + Self::SCAN_SYNC, &words);
-        let halves = [
-            self.clutter_classifier,
-            self.clutter_filter,
-            self.clutter_notch_width,
-            self.clutter_window,
-        ];
-        le::put_halves(room, at + Self::CLUTTER_CLASSIFIER, &halves);
-        let reserved = self.reserved;
-        put_reserved(room, at + Self::RESERVED, &reserved);
+        le::put_words(
+            room,
+            at + Self::FILTER_MASK,
+            &[
+                self.filter_mask,
+                self.sqi_threshold,
+                self.sig_threshold,
+                self.csr_threshold,
+                self.log_threshold,
+                self.cpa_threshold,
+                self.pmi_threshold,
+                self.dplog_threshold,
+                self.thresholds_reserved,
+                self.db_mask,
+                self.dbz_mask,
+                self.velocity_mask,
+                self.spectrum_width_mask,
+                self.dp_mask,
+            ],
+        );
+        le::put_bytes(room, at + Self::MASK_RESERVED, self.mask_reserved);
+        le::put_words(
+            room,
+            at + Self::SCAN_SYNC,
+            &[self.scan_sync, self.direction],
+        );
+        le::put_halves(
+            room,
+            at + Self::CLUTTER_CLASSIFIER,
+            &[
+                self.clutter_classifier,
+                self.clutter_filter,
+                self.clutter_notch_width,
+                self.clutter_window,
+            ],
+        );
+        le::put_bytes(room, at + Self::RESERVED, self.reserved);
     }
 
     // The first broken clause of the first broken rule of the block.
@@ -313,18 +317,4 @@ impl Cut {
         )?;
         rule(among(1, 3, self.phase_mode), 9, Self::PHASE_MODE as u8, 4)
     }
-}
-
-// The bytes reserved among the masks, put into a room: a function of its own, since the length is then in the argument's type.
-fn put_mask_reserved(room: &mut [u8], at: usize, x: &[u8; 12])
-    ensures { (room.new ≡ stored (length x.now) room.old at x.now) × (length x.now ≡ 12) }
-{
-    le::put(room, at, x);
-}
-
-// The reserved bytes, put into a room: a function of its own, since the length is then in the argument's type.
-fn put_reserved(room: &mut [u8], at: usize, x: &[u8; 72])
-    ensures { (room.new ≡ stored (length x.now) room.old at x.now) × (length x.now ≡ 72) }
-{
-    le::put(room, at, x);
 }

@@ -39,15 +39,13 @@ impl Generic {
     fn decode(b: &[u8; 32]) -> Self
         ensures { result ≡ generic_of b.now }
     {
-        let mut reserved = [0u8; 16];
-        le::copy_out(b, Self::RESERVED, &mut reserved);
         Self {
             magic: le::u32_at(b, Self::MAGIC),
             major: le::u16_at(b, Self::MAJOR),
             minor: le::u16_at(b, Self::MINOR),
             generic_type: le::u32_at(b, Self::GENERIC_TYPE),
             product_type: le::u32_at(b, Self::PRODUCT_TYPE),
-            reserved,
+            reserved: le::bytes_at(b, Self::RESERVED),
         }
     }
 
@@ -55,9 +53,7 @@ impl Generic {
     pub fn read(s: &[u8], at: usize) -> Self
         ensures { result ≡ generic_at s.now at }
     {
-        let mut b = [0u8; 32];
-        le::copy_out(s, at, &mut b);
-        Self::decode(&b)
+        Self::decode(&le::bytes_at(s, at))
     }
 
     // The record into a room at a place, where it fits; no other byte changes.
@@ -74,12 +70,13 @@ impl Generic {
         ensures { room.new ≡ patch room.old at (generic_bytes self) }
     {
         le::put_u32(room, at, self.magic);
-        let halves = [self.major, self.minor];
-        le::put_halves(room, at + Self::MAJOR, &halves);
-        let words = [self.generic_type, self.product_type];
-        le::put_words(room, at + Self::GENERIC_TYPE, &words);
-        let reserved = self.reserved;
-        le::put(room, at + Self::RESERVED, &reserved);
+        le::put_halves(room, at + Self::MAJOR, &[self.major, self.minor]);
+        le::put_words(
+            room,
+            at + Self::GENERIC_TYPE,
+            &[self.generic_type, self.product_type],
+        );
+        le::put_bytes(room, at + Self::RESERVED, self.reserved);
     }
 
     // The first broken clause of the first broken rule of the block.

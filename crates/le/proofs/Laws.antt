@@ -10,9 +10,12 @@ use native.Mathlib.Decide.{dec_lt}
 use native.Mathlib.Omega.{arith}
 use lib.Dec.{lit<, leb}
 use lib.Arith.{mod-mul}
-use lib.ListN.{length, get_or, take, drop, set, length-append, length-take, length-drop, get_or-eq_default, get_or-append}
+use lib.ListN.{replicate, length, get_or, take, drop, set, length-append, length-take, length-drop, get_or-eq_default, get_or-append}
+use borrow.Rule.Slice.PartMut.{put_mid}
 use lib.Seq.{drop-cons, take_at, drop_at, drop-append-add, drop-drop, get_or-append-add, get_or-take, get_or-drop, length-take-le, take_all, drop-length, sets-eq, set_at, append_snoc, paste-zero}
 use borrow.Author.Tests.{le-leb, lt-leb}
+use Rattle.std.specs.Prelude.{slice_range}
+use Rattle.std.specs.Int.{w16, w32, w64, from_le_bytes, to_le_bytes}
 use Rattle.le.specs.Le.{le, bytes, part, patch, stored, Bytes, run, items}
 
 -- ---- numbers
@@ -361,3 +364,53 @@ run-append enc (x ∷ xs) b = ap (λ (l : List ℕ). enc x ++ l) (run-append enc
 pub run_end : {A : Type 0} (enc : A → List ℕ) (a : List A) (x : A) → run enc (a ++ (x ∷ [])) ≡ run enc a ++ enc x
 unfolding run
 run_end enc a x = run-append enc a (x ∷ []) ∙ ap (λ (l : List ℕ). run enc a ++ l) (append-nil (enc x))
+
+-- a part of a list written over
+pub laid_over : (f : List ℕ) (at : ℕ) {new : List ℕ} (bs : List ℕ) → at + length bs ≤ length f → new ≡ bs
+    → put_mid at (at + length bs - at) f new ≡ patch f at bs
+unfolding patch
+laid_over f at bs h e =
+    let n : at + length bs - at ≡ length bs = omega arith in
+    rw (e, n, drop-drop (length bs) at f) (sym (append_assoc (take at f) bs (drop (at + length bs) f)))
+
+-- as many zeros as there are bytes past the end of a list
+pub zeros : (n : ℕ) → replicate n 0 ≡ part n [] 0
+unfolding part
+zeros n = go n 0
+  where
+    go : (n at : ℕ) → replicate n 0 ≡ part n [] at
+    go zero at = refl
+    go (suc n) at = ap (λ (l : List ℕ). 0 ∷ l) (go n (at + 1))
+
+-- a list from a place on, as `get` gives it
+pub tail-is : (f : List ℕ) (at : ℕ) {tail : List ℕ} → tail ≡ slice_range f at (length f) → at ≤ length f → tail ≡ drop at f
+tail-is f at e h = e ∙ to_end f at (length f - at) (omega arith)
+
+-- a list, and zeros behind it
+pub padded-out : (n : ℕ) (f : List ℕ) {new : List ℕ} → length f < n → new ≡ f → new ++ drop (length f) (replicate n 0) ≡ part n f 0
+unfolding patch
+padded-out n f h e =
+    let all : take (length f - 0) (drop 0 f) ≡ f = to_end f 0 (length f - 0) (omega arith) in
+    rw (e, zeros n, ← zero-add (length f))
+    (ap (patch (part n [] 0) 0) (sym all) ∙ part-short n f 0 (omega arith) (omega arith))
+
+-- a number by its bytes, as std's own conversions have it
+pub from16 : (bs : List ℕ) → from_le_bytes w16 bs ≡ le 2 bs 0
+unfolding le
+from16 bs = omega arith
+
+pub from32 : (bs : List ℕ) → from_le_bytes w32 bs ≡ le 4 bs 0
+unfolding le
+from32 bs = omega arith
+
+pub from64 : (bs : List ℕ) → from_le_bytes w64 bs ≡ le 8 bs 0
+unfolding le
+from64 bs = omega arith
+
+pub to32 : (x : ℕ) → to_le_bytes w32 x ≡ bytes 4 x
+unfolding bytes
+to32 x = simp div-div-eq-div-mul refl
+
+pub to64 : (x : ℕ) → to_le_bytes w64 x ≡ bytes 8 x
+unfolding bytes
+to64 x = simp div-div-eq-div-mul refl

@@ -52,8 +52,6 @@ impl Moment {
     fn decode(b: &[u8; 32]) -> Self
         ensures { result ≡ moment_of b.now }
     {
-        let mut reserved = [0u8; 12];
-        le::copy_out(b, Self::RESERVED, &mut reserved);
         Self {
             data_type: le::u32_at(b, Self::DATA_TYPE),
             scale: le::u32_at(b, Self::SCALE),
@@ -61,7 +59,7 @@ impl Moment {
             bin_length: le::u16_at(b, Self::BIN_LENGTH),
             flags: le::u16_at(b, Self::FLAGS),
             length: le::u32_at(b, Self::LENGTH),
-            reserved,
+            reserved: le::bytes_at(b, Self::RESERVED),
         }
     }
 
@@ -69,9 +67,7 @@ impl Moment {
     pub fn read(s: &[u8], at: usize) -> Self
         ensures { result ≡ moment_at s.now at }
     {
-        let mut b = [0u8; 32];
-        le::copy_out(s, at, &mut b);
-        Self::decode(&b)
+        Self::decode(&le::bytes_at(s, at))
     }
 
     // The record into a room at a place, where it fits; no other byte changes.
@@ -87,13 +83,10 @@ impl Moment {
         requires { at + moment_size ≤ length room.old }
         ensures { room.new ≡ patch room.old at (moment_bytes self) }
     {
-        let words = [self.data_type, self.scale, self.offset];
-        le::put_words(room, at, &words);
-        let halves = [self.bin_length, self.flags];
-        le::put_halves(room, at + Self::BIN_LENGTH, &halves);
+        le::put_words(room, at, &[self.data_type, self.scale, self.offset]);
+        le::put_halves(room, at + Self::BIN_LENGTH, &[self.bin_length, self.flags]);
         le::put_u32(room, at + Self::LENGTH, self.length);
-        let reserved = self.reserved;
-        le::put(room, at + Self::RESERVED, &reserved);
+        le::put_bytes(room, at + Self::RESERVED, self.reserved);
     }
 
     // The first broken clause of the first broken rule of the block.

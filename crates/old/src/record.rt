@@ -5,7 +5,7 @@ ghost use Rattle.rules.specs.Check.{breaks};
 ghost use Rattle.old.specs.Old.{old_of, old_at, old_check, counts_clauses, resolution_ok};
 
 use crate::clock;
-use rules::check::{Check, also, also_clauses};
+use rules::check::{Clause, clauses, rule};
 
 #[derive(Clone, Copy)]
 pub struct OldRadial {
@@ -69,32 +69,27 @@ impl OldRadial {
     pub fn read(s: &[u8], at: usize) -> Self
         ensures { result ≡ old_at s.now at }
     {
-        let mut b = [0u8; 128];
-        le::copy_out(s, at, &mut b);
-        Self::decode(&b)
+        Self::decode(&le::bytes_at(s, at))
     }
 
     // The first broken clause of the first broken rule, in the order of document 02, #102. Each is told at the radial's first byte.
-    pub fn check(self) -> Check
+    pub fn check(self) -> Result<(), Clause>
         ensures { result ≡ old_check self }
     {
-        let v = also(Check::Fine, mark_ok(self.mark), 51, 0, Self::DATA as u8);
-        let v = also_clauses(
-            v,
+        rule(mark_ok(self.mark), 51, 0, Self::DATA as u8)?;
+        clauses(
             clock::time_breaks(self.day, self.milliseconds),
             62,
             0,
             Self::DATA as u8,
-        );
-        let v = also_clauses(
-            v,
+        )?;
+        clauses(
             counts_breaks(self.reflectivity, self.doppler),
             52,
             0,
             Self::DATA as u8,
-        );
-        let v = also(v, resolution_ok(self.resolution), 53, 0, Self::DATA as u8);
-        v
+        )?;
+        rule(resolution_ok(self.resolution), 53, 0, Self::DATA as u8)
     }
 }
 

@@ -68,8 +68,6 @@ impl Radial {
     fn decode(b: &[u8; 64]) -> Self
         ensures { result ≡ radial_of b.now }
     {
-        let mut reserved = [0u8; 20];
-        le::copy_out(b, Self::RESERVED, &mut reserved);
         Self {
             state: le::u32_at(b, Self::STATE),
             spot_blank: le::u32_at(b, Self::SPOT_BLANK),
@@ -82,7 +80,7 @@ impl Radial {
             microseconds: le::u32_at(b, Self::MICROSECONDS),
             length_of_data: le::u32_at(b, Self::LENGTH_OF_DATA),
             moment_number: le::u32_at(b, Self::MOMENT_NUMBER),
-            reserved,
+            reserved: le::bytes_at(b, Self::RESERVED),
         }
     }
 
@@ -90,9 +88,7 @@ impl Radial {
     pub fn read(s: &[u8], at: usize) -> Self
         ensures { result ≡ radial_at s.now at }
     {
-        let mut b = [0u8; 64];
-        le::copy_out(s, at, &mut b);
-        Self::decode(&b)
+        Self::decode(&le::bytes_at(s, at))
     }
 
     // The record into a room at a place, where it fits; no other byte changes.
@@ -108,22 +104,24 @@ impl Radial {
         requires { at + radial_size ≤ length room.old }
         ensures { room.new ≡ patch room.old at (radial_bytes self) }
     {
-        let words = [
-            self.state,
-            self.spot_blank,
-            self.sequence,
-            self.radial_number,
-            self.elevation_number,
-            self.azimuth,
-            self.elevation,
-            self.seconds,
-            self.microseconds,
-            self.length_of_data,
-            self.moment_number,
-        ];
-        le::put_words(room, at, &words);
-        let reserved = self.reserved;
-        le::put(room, at + Self::RESERVED, &reserved);
+        le::put_words(
+            room,
+            at,
+            &[
+                self.state,
+                self.spot_blank,
+                self.sequence,
+                self.radial_number,
+                self.elevation_number,
+                self.azimuth,
+                self.elevation,
+                self.seconds,
+                self.microseconds,
+                self.length_of_data,
+                self.moment_number,
+            ],
+        );
+        le::put_bytes(room, at + Self::RESERVED, self.reserved);
     }
 
     // The first broken clause of the first broken rule of the block.

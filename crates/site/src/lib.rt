@@ -55,15 +55,9 @@ impl Site {
     fn decode(b: &[u8; 128]) -> Self
         ensures { result ≡ site_of b.now }
     {
-        let mut code = [0u8; 8];
-        le::copy_out(b, Self::CODE, &mut code);
-        let mut name = [0u8; 32];
-        le::copy_out(b, Self::NAME, &mut name);
-        let mut reserved = [0u8; 54];
-        le::copy_out(b, Self::RESERVED, &mut reserved);
         Self {
-            code,
-            name,
+            code: le::bytes_at(b, Self::CODE),
+            name: le::bytes_at(b, Self::NAME),
             latitude: le::u32_at(b, Self::LATITUDE),
             longitude: le::u32_at(b, Self::LONGITUDE),
             antenna_height: le::u32_at(b, Self::ANTENNA_HEIGHT),
@@ -73,7 +67,7 @@ impl Site {
             beam_width_v: le::u32_at(b, Self::BEAM_WIDTH_V),
             rda_version: le::u32_at(b, Self::RDA_VERSION),
             radar_type: le::u16_at(b, Self::RADAR_TYPE),
-            reserved,
+            reserved: le::bytes_at(b, Self::RESERVED),
         }
     }
 
@@ -81,9 +75,7 @@ impl Site {
     pub fn read(s: &[u8], at: usize) -> Self
         ensures { result ≡ site_at s.now at }
     {
-        let mut b = [0u8; 128];
-        le::copy_out(s, at, &mut b);
-        Self::decode(&b)
+        Self::decode(&le::bytes_at(s, at))
     }
 
     // The record into a room at a place, where it fits; no other byte changes.
@@ -99,24 +91,24 @@ impl Site {
         requires { at + site_size ≤ length room.old }
         ensures { room.new ≡ patch room.old at (site_bytes self) }
     {
-        let code = self.code;
-        le::put(room, at, &code);
-        let name = self.name;
-        le::put(room, at + Self::NAME, &name);
-        let words = [
-            self.latitude,
-            self.longitude,
-            self.antenna_height,
-            self.ground_height,
-            self.frequency,
-            self.beam_width_h,
-            self.beam_width_v,
-            self.rda_version,
-        ];
-        le::put_words(room, at + Self::LATITUDE, &words);
+        le::put_bytes(room, at, self.code);
+        le::put_bytes(room, at + Self::NAME, self.name);
+        le::put_words(
+            room,
+            at + Self::LATITUDE,
+            &[
+                self.latitude,
+                self.longitude,
+                self.antenna_height,
+                self.ground_height,
+                self.frequency,
+                self.beam_width_h,
+                self.beam_width_v,
+                self.rda_version,
+            ],
+        );
         le::put_u16(room, at + Self::RADAR_TYPE, self.radar_type);
-        let reserved = self.reserved;
-        put_reserved(room, at + Self::RESERVED, &reserved);
+        le::put_bytes(room, at + Self::RESERVED, self.reserved);
     }
 
     // The first broken clause of the first broken rule of the block.
@@ -136,11 +128,4 @@ impl Site {
             4,
         )
     }
-}
-
-// The reserved bytes, put into a room: a function of its own, since the length is then in the argument's type.
-fn put_reserved(room: &mut [u8], at: usize, x: &[u8; 54])
-    ensures { (room.new ≡ stored (length x.now) room.old at x.now) × (length x.now ≡ 54) }
-{
-    le::put(room, at, x);
 }

@@ -71,15 +71,9 @@ impl Task {
     fn decode(b: &[u8; 256]) -> Self
         ensures { result ≡ task_of b.now }
     {
-        let mut name = [0u8; 32];
-        le::copy_out(b, Self::NAME, &mut name);
-        let mut description = [0u8; 128];
-        le::copy_out(b, Self::DESCRIPTION, &mut description);
-        let mut reserved = [0u8; 40];
-        le::copy_out(b, Self::RESERVED, &mut reserved);
         Self {
-            name,
-            description,
+            name: le::bytes_at(b, Self::NAME),
+            description: le::bytes_at(b, Self::DESCRIPTION),
             polarization: le::u32_at(b, Self::POLARIZATION),
             scan_type: le::u32_at(b, Self::SCAN_TYPE),
             pulse_width: le::u32_at(b, Self::PULSE_WIDTH),
@@ -94,7 +88,7 @@ impl Task {
             zdr_calibration: le::u32_at(b, Self::ZDR_CALIBRATION),
             phase_calibration: le::u32_at(b, Self::PHASE_CALIBRATION),
             ldr_calibration: le::u32_at(b, Self::LDR_CALIBRATION),
-            reserved,
+            reserved: le::bytes_at(b, Self::RESERVED),
         }
     }
 
@@ -102,9 +96,7 @@ impl Task {
     pub fn read(s: &[u8], at: usize) -> Self
         ensures { result ≡ task_at s.now at }
     {
-        let mut b = [0u8; 256];
-        le::copy_out(s, at, &mut b);
-        Self::decode(&b)
+        Self::decode(&le::bytes_at(s, at))
     }
 
     // The record into a room at a place, where it fits; no other byte changes.
@@ -120,29 +112,29 @@ impl Task {
         requires { at + task_size ≤ length room.old }
         ensures { room.new ≡ patch room.old at (task_bytes self) }
     {
-        let name = self.name;
-        le::put(room, at, &name);
-        let description = self.description;
-        le::put(room, at + Self::DESCRIPTION, &description);
-        let words = [
-            self.polarization,
-            self.scan_type,
-            self.pulse_width,
-            self.start_time,
-            self.cut_number,
-            self.noise_h,
-            self.noise_v,
-            self.calibration_h,
-            self.calibration_v,
-            self.noise_temperature_h,
-            self.noise_temperature_v,
-            self.zdr_calibration,
-            self.phase_calibration,
-            self.ldr_calibration,
-        ];
-        le::put_words(room, at + Self::POLARIZATION, &words);
-        let reserved = self.reserved;
-        put_reserved(room, at + Self::RESERVED, &reserved);
+        le::put_bytes(room, at, self.name);
+        le::put_bytes(room, at + Self::DESCRIPTION, self.description);
+        le::put_words(
+            room,
+            at + Self::POLARIZATION,
+            &[
+                self.polarization,
+                self.scan_type,
+                self.pulse_width,
+                self.start_time,
+                self.cut_number,
+                self.noise_h,
+                self.noise_v,
+                self.calibration_h,
+                self.calibration_v,
+                self.noise_temperature_h,
+                self.noise_temperature_v,
+                self.zdr_calibration,
+                self.phase_calibration,
+                self.ldr_calibration,
+            ],
+        );
+        le::put_bytes(room, at + Self::RESERVED, self.reserved);
     }
 
     // The first broken clause of the first broken rule of the block.
@@ -169,11 +161,4 @@ impl Task {
             4,
         )
     }
-}
-
-// The reserved bytes, put into a room: a function of its own, since the length is then in the argument's type.
-fn put_reserved(room: &mut [u8], at: usize, x: &[u8; 40])
-    ensures { (room.new ≡ stored (length x.now) room.old at x.now) × (length x.now ≡ 40) }
-{
-    le::put(room, at, x);
 }

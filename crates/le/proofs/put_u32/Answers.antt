@@ -1,23 +1,5 @@
-use mathlib.Core.Path.{sym, ◌∙◌}
-use Prim.Native.Nat.{◌+◌}
-use borrow.Author.Tests.{leb-true}
-use lib.ListN.{length}
-use Rattle.le.specs.Le.{bytes}
-use Rattle.le.proofs.Laws.{stored-yes, stored_no}
+use Rattle.le.proofs.Laws.{to32}
 use Rattle.le.proofs.put_u32.Goals as goal
 
-pub put_u32_here-requires : goal.put_u32_here-requires
-put_u32_here-requires c =
-    let s = c.args in
-    leb-true (s.at + 4) (length s.room.now) (sym c.has.ensures ∙ c.if-has.true)
-
-pub returns-then-has : goal.returns-then-has
-returns-then-has c =
-    let s = c.args in
-    c.put_u32_here.ensures
-    ∙ sym (stored-yes 4 s.room.now s.at (bytes 4 s.x) (sym c.has.ensures ∙ c.if-has.true))
-
-pub returns-else-has : goal.returns-else-has
-returns-else-has c =
-    let s = c.args in
-    sym (stored_no 4 s.room.now s.at (bytes 4 s.x) (sym c.has.ensures ∙ c.if-has.false))
+pub returns : goal.returns
+returns c = rw (c.put_bytes.ensures.stored, c.to_le_bytes.ensures, to32 c.args.x)

@@ -1,12 +1,10 @@
-use mathlib.Core.Path.{sym}
-use native.Mathlib.Omega.{arith}
-use Rattle.le.specs.Le.{le}
-use Rattle.le.proofs.Laws.{le-beyond}
+use mathlib.Core.Path.{◌∙◌}
+use Rattle.le.specs.Le.{part}
+use Rattle.le.proofs.Laws.{from16, le-own}
 use Rattle.le.proofs.u16_at.Goals as goal
 
-pub returns-then-s-at : goal.returns-then-s-at
-returns-then-s-at c = sym (le-beyond 2 c.args.s.now c.args.at c.if-s-at.true)
-
 pub returns : goal.returns
-unfolding le
-returns c = omega arith
+returns c =
+    let f = c.args.s.now in
+    let at = c.args.at in
+    rw (c.from_le_bytes.ensures, c.bytes_at.ensures) (from16 (part 2 f at) ∙ le-own 2 f at)

@@ -43,12 +43,12 @@ returns c =
       velocity_mask = c.u32_at-33.ensures i;
       spectrum_width_mask = c.u32_at-34.ensures i;
       dp_mask = c.u32_at-35.ensures i;
-      mask_reserved = c.copy_out.ensures i;
+      mask_reserved = c.bytes_at.ensures i;
       scan_sync = c.u32_at-36.ensures i;
       direction = c.u32_at-37.ensures i;
       clutter_classifier = c.u16_at.ensures i;
       clutter_filter = c.u16_at-2.ensures i;
       clutter_notch_width = c.u16_at-3.ensures i;
       clutter_window = c.u16_at-4.ensures i;
-      reserved = c.copy_out-2.ensures i;
+      reserved = c.bytes_at-2.ensures i;
     }

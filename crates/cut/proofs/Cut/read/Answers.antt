@@ -4,4 +4,4 @@ use Rattle.cut.proofs.Cut.read.Goals as goal
 
 pub returns : goal.returns
 unfolding cut_at
-returns c = c.decode.ensures ∙ ap cut_of c.copy_out.ensures
+returns c = c.decode.ensures ∙ ap cut_of c.bytes_at.ensures

@@ -7,14 +7,7 @@ use Rattle.le.proofs.Laws.{length-bytes, length_run, Laid, laid-first, laid_next
 use Rattle.cut.specs.Cut.{cut_bytes}
 use Rattle.cut.proofs.Cut.write_here.Goals as goal
 
--- far from the function's entry: the place of the last run, from what stands there
-entry : (s : goal.After-put_reserved-arg-1) → s.args.at + 184 < 2 ^ 64
-entry s = omega arith
-
-pub overflow_add-at-7 : goal.overflow_add-at-7
-overflow_add-at-7 c = omega (arith, entry c)
-
-stands : (c : goal.After-slice_known-9-1) → Laid c.args.room.now c.args.at c.put_reserved.new.room 256 (cut_bytes c.args.self)
+stands : (c : goal.After-slice_known-9-1) → Laid c.args.room.now c.args.at c.put_bytes-2.new.room 256 (cut_bytes c.args.self)
 unfolding cut_bytes
 stands c =
     let r = c.args.self in
@@ -23,10 +16,10 @@ stands c =
     let l1 = laid_next 8 (bytes 8 r.moments_mask) l0 c.put_u64.ensures (length-bytes 8 r.moments_mask) (omega arith) in
     let l2 = laid_next 8 (bytes 8 r.size_mask) l1 c.put_u64-2.ensures (length-bytes 8 r.size_mask) (omega arith) in
     let l3 = laid_next 56 (run (bytes 4) (r.filter_mask ∷ r.sqi_threshold ∷ r.sig_threshold ∷ r.csr_threshold ∷ r.log_threshold ∷ r.cpa_threshold ∷ r.pmi_threshold ∷ r.dplog_threshold ∷ r.thresholds_reserved ∷ r.db_mask ∷ r.dbz_mask ∷ r.velocity_mask ∷ r.spectrum_width_mask ∷ r.dp_mask ∷ [])) l2 c.put_words-2.ensures (length_run (bytes 4) 4 (length-bytes 4) (r.filter_mask ∷ r.sqi_threshold ∷ r.sig_threshold ∷ r.csr_threshold ∷ r.log_threshold ∷ r.cpa_threshold ∷ r.pmi_threshold ∷ r.dplog_threshold ∷ r.thresholds_reserved ∷ r.db_mask ∷ r.dbz_mask ∷ r.velocity_mask ∷ r.spectrum_width_mask ∷ r.dp_mask ∷ [])) (omega arith) in
-    let l4 = laid_next 12 r.mask_reserved l3 (rw c.put_mask_reserved.ensures.1 at c.put_mask_reserved.ensures.0) c.put_mask_reserved.ensures.1 (omega arith) in
+    let l4 = laid_next 12 r.mask_reserved l3 c.put_bytes.ensures.stored c.put_bytes.ensures.len (omega arith) in
     let l5 = laid_next 8 (run (bytes 4) (r.scan_sync ∷ r.direction ∷ [])) l4 c.put_words-3.ensures (length_run (bytes 4) 4 (length-bytes 4) (r.scan_sync ∷ r.direction ∷ [])) (omega arith) in
     let l6 = laid_next 8 (run (bytes 2) (r.clutter_classifier ∷ r.clutter_filter ∷ r.clutter_notch_width ∷ r.clutter_window ∷ [])) l5 c.put_halves.ensures (length_run (bytes 2) 2 (length-bytes 2) (r.clutter_classifier ∷ r.clutter_filter ∷ r.clutter_notch_width ∷ r.clutter_window ∷ [])) (omega arith) in
-    let l7 = laid_next 72 r.reserved l6 (rw c.put_reserved.ensures.1 at c.put_reserved.ensures.0) c.put_reserved.ensures.1 (omega arith) in
+    let l7 = laid_next 72 r.reserved l6 c.put_bytes-2.ensures.stored c.put_bytes-2.ensures.len (omega arith) in
     l7
 
 pub shape_of-room : goal.shape_of-room

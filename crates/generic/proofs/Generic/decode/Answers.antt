@@ -11,5 +11,5 @@ returns c =
       minor = c.u16_at-2.ensures i;
       generic_type = c.u32_at-2.ensures i;
       product_type = c.u32_at-3.ensures i;
-      reserved = c.copy_out.ensures i;
+      reserved = c.bytes_at.ensures i;
     }

@@ -4,4 +4,4 @@ use Rattle.generic.proofs.Generic.read.Goals as goal
 
 pub returns : goal.returns
 unfolding generic_at
-returns c = c.decode.ensures ∙ ap generic_of c.copy_out.ensures
+returns c = c.decode.ensures ∙ ap generic_of c.bytes_at.ensures

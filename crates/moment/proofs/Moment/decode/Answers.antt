@@ -12,5 +12,5 @@ returns c =
       bin_length = c.u16_at.ensures i;
       flags = c.u16_at-2.ensures i;
       length = c.u32_at-4.ensures i;
-      reserved = c.copy_out.ensures i;
+      reserved = c.bytes_at.ensures i;
     }

@@ -4,4 +4,4 @@ use Rattle.moment.proofs.Moment.read.Goals as goal
 
 pub returns : goal.returns
 unfolding moment_at
-returns c = c.decode.ensures ∙ ap moment_of c.copy_out.ensures
+returns c = c.decode.ensures ∙ ap moment_of c.bytes_at.ensures

@@ -2,16 +2,11 @@
 use mathlib.Core.List.{[], ◌∷◌}
 use mathlib.Core.Path.{◌≡◌}
 use lib.ListN.{length}
-use borrow.Author.Rules.{rules}
 use native.Mathlib.Omega.{arith}
 use Rattle.le.specs.Le.{bytes, run}
 use Rattle.le.proofs.Laws.{length-bytes, length_run, laid-first, laid_next}
 use Rattle.moment.specs.Moment.{moment_bytes}
 use Rattle.moment.proofs.Moment.write_here.Goals as goal
-
--- the array's length, which its type fixes
-reserved-is : (s : goal.After-slice_known-5-1) → length s.args.self.reserved ≡ 12
-reserved-is s = search rules
 
 pub returns : goal.returns
 unfolding moment_bytes
@@ -21,5 +16,5 @@ returns c =
     let l0 = laid-first c.args.at 12 c.put_words.ensures (length_run (bytes 4) 4 (length-bytes 4) (r.data_type ∷ r.scale ∷ r.offset ∷ [])) (omega arith) in
     let l1 = laid_next 4 (run (bytes 2) (r.bin_length ∷ r.flags ∷ [])) l0 c.put_halves.ensures (length_run (bytes 2) 2 (length-bytes 2) (r.bin_length ∷ r.flags ∷ [])) (omega arith) in
     let l2 = laid_next 4 (bytes 4 r.length) l1 c.put_u32.ensures (length-bytes 4 r.length) (omega arith) in
-    let l3 = laid_next 12 r.reserved l2 (rw (reserved-is c) at c.put.ensures) (reserved-is c) (omega arith) in
+    let l3 = laid_next 12 r.reserved l2 c.put_bytes.ensures.stored c.put_bytes.ensures.len (omega arith) in
     l3.is

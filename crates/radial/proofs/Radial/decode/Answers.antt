@@ -17,5 +17,5 @@ returns c =
       microseconds = c.u32_at-9.ensures i;
       length_of_data = c.u32_at-10.ensures i;
       moment_number = c.u32_at-11.ensures i;
-      reserved = c.copy_out.ensures i;
+      reserved = c.bytes_at.ensures i;
     }

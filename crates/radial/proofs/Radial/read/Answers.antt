@@ -4,4 +4,4 @@ use Rattle.radial.proofs.Radial.read.Goals as goal
 
 pub returns : goal.returns
 unfolding radial_at
-returns c = c.decode.ensures ∙ ap radial_of c.copy_out.ensures
+returns c = c.decode.ensures ∙ ap radial_of c.bytes_at.ensures

@@ -2,16 +2,11 @@
 use mathlib.Core.List.{[], ◌∷◌}
 use mathlib.Core.Path.{◌≡◌}
 use lib.ListN.{length}
-use borrow.Author.Rules.{rules}
 use native.Mathlib.Omega.{arith}
 use Rattle.le.specs.Le.{bytes}
 use Rattle.le.proofs.Laws.{length-bytes, length_run, laid-first, laid_next}
 use Rattle.radial.specs.Radial.{radial_bytes}
 use Rattle.radial.proofs.Radial.write_here.Goals as goal
-
--- the array's length, which its type fixes
-reserved-is : (s : goal.After-slice_known-3-1) → length s.args.self.reserved ≡ 20
-reserved-is s = search rules
 
 pub returns : goal.returns
 unfolding radial_bytes
@@ -19,5 +14,5 @@ returns c =
     let r = c.args.self in
     let fits = c.requires in
     let l0 = laid-first c.args.at 44 c.put_words.ensures (length_run (bytes 4) 4 (length-bytes 4) (r.state ∷ r.spot_blank ∷ r.sequence ∷ r.radial_number ∷ r.elevation_number ∷ r.azimuth ∷ r.elevation ∷ r.seconds ∷ r.microseconds ∷ r.length_of_data ∷ r.moment_number ∷ [])) (omega arith) in
-    let l1 = laid_next 20 r.reserved l0 (rw (reserved-is c) at c.put.ensures) (reserved-is c) (omega arith) in
+    let l1 = laid_next 20 r.reserved l0 c.put_bytes.ensures.stored c.put_bytes.ensures.len (omega arith) in
     l1.is

@@ -6,8 +6,8 @@ pub returns : goal.returns
 unfolding site_of
 returns c =
     λ i. record {
-      code = c.copy_out.ensures i;
-      name = c.copy_out-2.ensures i;
+      code = c.bytes_at.ensures i;
+      name = c.bytes_at-2.ensures i;
       latitude = c.u32_at.ensures i;
       longitude = c.u32_at-2.ensures i;
       antenna_height = c.u32_at-3.ensures i;
@@ -17,5 +17,5 @@ returns c =
       beam_width_v = c.u32_at-7.ensures i;
       rda_version = c.u32_at-8.ensures i;
       radar_type = c.u16_at.ensures i;
-      reserved = c.copy_out-3.ensures i;
+      reserved = c.bytes_at-3.ensures i;
     }

@@ -4,4 +4,4 @@ use Rattle.site.proofs.Site.read.Goals as goal
 
 pub returns : goal.returns
 unfolding site_at
-returns c = c.decode.ensures ∙ ap site_of c.copy_out.ensures
+returns c = c.decode.ensures ∙ ap site_of c.bytes_at.ensures

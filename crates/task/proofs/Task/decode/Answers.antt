@@ -6,8 +6,8 @@ pub returns : goal.returns
 unfolding task_of
 returns c =
     λ i. record {
-      name = c.copy_out.ensures i;
-      description = c.copy_out-2.ensures i;
+      name = c.bytes_at.ensures i;
+      description = c.bytes_at-2.ensures i;
       polarization = c.u32_at.ensures i;
       scan_type = c.u32_at-2.ensures i;
       pulse_width = c.u32_at-3.ensures i;
@@ -22,5 +22,5 @@ returns c =
       zdr_calibration = c.u32_at-12.ensures i;
       phase_calibration = c.u32_at-13.ensures i;
       ldr_calibration = c.u32_at-14.ensures i;
-      reserved = c.copy_out-3.ensures i;
+      reserved = c.bytes_at-3.ensures i;
     }

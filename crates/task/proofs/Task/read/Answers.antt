@@ -4,4 +4,4 @@ use Rattle.task.proofs.Task.read.Goals as goal
 
 pub returns : goal.returns
 unfolding task_at
-returns c = c.decode.ensures ∙ ap task_of c.copy_out.ensures
+returns c = c.decode.ensures ∙ ap task_of c.bytes_at.ensures

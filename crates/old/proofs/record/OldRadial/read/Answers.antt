@@ -4,4 +4,4 @@ use Rattle.old.proofs.record.OldRadial.read.Goals as goal
 
 pub returns : goal.returns
 unfolding old_at
-returns c = c.decode.ensures ∙ ap old_of c.copy_out.ensures
+returns c = c.decode.ensures ∙ ap old_of c.bytes_at.ensures
