@@ -3,7 +3,7 @@ use mathlib.Core.List.{List}
 use Prim.Native.Nat.{ℕ}
 use native.Mathlib.Nat.{add-zero}
 use native.Mathlib.Omega.{arith}
-use lib.ListN.{length, take, length-drop}
+use lib.ListN.{take}
 use Rattle.le.specs.Le.{part}
 use Rattle.le.proofs.Laws.{zeros, tail-is, part-beyond, part-here, part-drop}
 use Rattle.le.proofs.bytes_at.Goals as goal

@@ -1,6 +1,5 @@
 use mathlib.Core.Path.{sym, ◌∙◌}
-use Prim.Native.Nat.{◌+◌, ◌≤◌}
-use native.Mathlib.Omega.{arith}
+use Prim.Native.Nat.{◌+◌}
 use borrow.Author.Tests.{leb-true}
 use lib.ListN.{length}
 use Rattle.le.proofs.Laws.{stored-yes, stored_no, laid_over}

@@ -1,6 +1,5 @@
 -- Each call lays the next run behind those that stand already. Assumes nothing.
 use mathlib.Core.List.{[], ◌∷◌}
-use Prim.Native.Nat.{◌+◌, ◌^◌, ◌<◌}
 use native.Mathlib.Omega.{arith}
 use Rattle.le.specs.Le.{bytes, run}
 use Rattle.le.proofs.Laws.{length-bytes, length_run, Laid, laid-first, laid_next}

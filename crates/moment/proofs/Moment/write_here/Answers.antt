@@ -1,7 +1,5 @@
 -- Each call lays the next run behind those that stand already. Assumes nothing.
 use mathlib.Core.List.{[], ◌∷◌}
-use mathlib.Core.Path.{◌≡◌}
-use lib.ListN.{length}
 use native.Mathlib.Omega.{arith}
 use Rattle.le.specs.Le.{bytes, run}
 use Rattle.le.proofs.Laws.{length-bytes, length_run, laid-first, laid_next}
