@@ -187,13 +187,7 @@ fn count_breaks(most: usize, before: usize, x: u32) -> u8
     ensures { result ≡ breaks (count_clauses most before x) }
 {
     match x {
-        1..=0x7fff_ffff => if (x - 1) as usize != before {
-            1
-        } else if before < most {
-            0
-        } else {
-            2
-        },
+        1..=0x7fff_ffff if (x - 1) as usize == before => if before < most { 0 } else { 2 },
         _ => 1,
     }
 }
