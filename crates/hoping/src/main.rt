@@ -4,12 +4,11 @@
 // verdict, the bytes read and the whole radials.
 #![tactic(auto)]
 
-use printing::{bare, behind, first, print_reading, read_full, word};
+use printing::{behind, first, print_reading, read_full};
 use std::io;
 
 fn tell(out: &impl Print, number: u64, file: &[u8]) -> io::Result<()> {
-    bare(out, number)?;
-    word(out, b":")?;
+    print!(out; "{number}:")?;
     print_reading(out, reading::read(file))
 }
 
@@ -20,14 +19,14 @@ fn next(out: &impl Print, room: &mut [u8], number: u64, kept: u32, own: &[u8]) -
 }
 
 fn each(out: &impl Print, files: &[u8], room: &mut [u8]) -> io::Result<()> {
-    let mut at = 0;
+    let mut rest = files;
     let mut number = 0;
-    while at < files.len() {
-        let kept = le::u32_at(files, at);
-        let n = le::u32_at(files, at + 4) as usize;
+    while !rest.is_empty() {
+        let kept = le::u32_at(rest, 0);
+        let n = le::u32_at(rest, 4) as usize;
         number += 1;
-        next(out, room, number, kept, first(behind(files, at + 8), n))?;
-        at = at + 8 + n;
+        next(out, room, number, kept, first(behind(rest, 8), n))?;
+        rest = behind(rest, 8 + n);
     }
     Ok(())
 }

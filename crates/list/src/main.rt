@@ -8,7 +8,7 @@ fn main(rt: HostRuntime) -> io::Result<()> {
     let mut buf = [0u8; 65536];
     let n = printing::read_full(&mut rt.stdin(), &mut buf)?;
     let file = &buf[..n];
-    printing::word(&rt, b"verdict")?;
+    print!(rt; "verdict")?;
     printing::print_reading(&rt, reading::read(file))?;
     printing::print_lines(&rt, file)
 }

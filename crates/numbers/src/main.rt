@@ -7,9 +7,9 @@ mod angles;
 
 ghost use Rattle.std.specs.Prelude.{◌≤◌, length};
 
-use printing::{behind, first, number, print_reading, print_verdict, read_full, word};
+use printing::{behind, first, print_reading, print_verdict, read_full};
 use reading::{Reading, Verdict};
-use std::io;
+use std::{io, mem};
 
 // The blocks before the radials of the small volume. Here and below, a byte that no rule asks for is 0.
 fn front_byte(at: usize) -> u8 {
@@ -65,10 +65,8 @@ fn small_byte(at: usize) -> u8 {
 }
 
 fn fill(room: &mut [u8]) {
-    let mut i = 0;
-    while i < room.len() {
-        room[i] = small_byte(i);
-        i += 1;
+    for (at, byte) in room.iter_mut().enumerate() {
+        *byte = small_byte(at);
     }
 }
 
@@ -85,87 +83,67 @@ fn read_first(file: &[u8], n: usize) -> Reading {
     reading::read(first(file, n))
 }
 
-fn tell(out: &impl Print, label: &[u8], file: &[u8], n: usize) -> io::Result<()> {
-    word(out, label)?;
+fn tell(out: &impl Print, label: &str, file: &[u8], n: usize) -> io::Result<()> {
+    print!(out; "{label}")?;
     print_reading(out, read_first(file, n))
 }
 
 fn wrong_magic(out: &impl Print) -> io::Result<()> {
     let mut v = small();
     v[0] = 0;
-    tell(out, b"empty:", &v, 0)?;
-    tell(out, b"wrong magic, 31 bytes:", &v, 31)?;
-    tell(out, b"wrong magic, 32 bytes:", &v, 32)
+    tell(out, "empty:", &v, 0)?;
+    tell(out, "wrong magic, 31 bytes:", &v, 31)?;
+    tell(out, "wrong magic, 32 bytes:", &v, 32)
 }
 
 // Up to 256 (document 02, #106).
 fn cut_numbers(out: &impl Print) -> io::Result<()> {
     let mut v = small();
-    v[336] = 50;
-    tell(out, b"cut number 50:", &v, SMALL)?;
-    v[336] = 51;
-    tell(out, b"cut number 51:", &v, SMALL)?;
-    v[336] = 0;
-    v[337] = 1;
-    tell(out, b"cut number 256:", &v, SMALL)?;
-    v[336] = 1;
-    tell(out, b"cut number 257:", &v, SMALL)
+    for n in [50, 51, 256, 257] {
+        le::put_u32(&mut v, 336, n);
+        print!(out; "cut number {n}")?;
+        tell(out, ":", &v, SMALL)?;
+    }
+    Ok(())
 }
 
 // As many as of any task for scan type 5, and one for scan type 2, of which the first radial's state then is wrong.
 fn cut_numbers_of_rhi(out: &impl Print) -> io::Result<()> {
     let mut v = small();
-    v[324] = 5;
-    v[336] = 0;
-    v[337] = 1;
-    tell(out, b"cut number 256, scan type 5:", &v, SMALL)?;
-    v[336] = 1;
-    tell(out, b"cut number 257, scan type 5:", &v, SMALL)?;
-    v[324] = 2;
-    v[336] = 2;
-    v[337] = 0;
-    tell(out, b"cut number 2, scan type 2:", &v, SMALL)?;
-    v[336] = 1;
-    tell(out, b"cut number 1, scan type 2:", &v, SMALL)
+    for (scan_type, n) in [(5, 256), (5, 257), (2, 2), (2, 1)] {
+        le::put_u32(&mut v, 324, scan_type);
+        le::put_u32(&mut v, 336, n);
+        print!(out; "cut number {n}, scan type {scan_type}")?;
+        tell(out, ":", &v, SMALL)?;
+    }
+    Ok(())
 }
 
 fn microseconds(out: &impl Print) -> io::Result<()> {
     let mut v = small();
-    v[704] = 0x3f;
-    v[705] = 0x42;
-    v[706] = 0x0f;
-    tell(out, b"microseconds 999999:", &v, SMALL)?;
-    v[704] = 0x40;
-    tell(out, b"microseconds 1000000:", &v, SMALL)
+    for n in [999_999, 1_000_000] {
+        le::put_u32(&mut v, 704, n);
+        print!(out; "microseconds {n}")?;
+        tell(out, ":", &v, SMALL)?;
+    }
+    Ok(())
 }
 
 fn lengths(out: &impl Print) -> io::Result<()> {
     let v = small();
-    tell(out, b"small volume:", &v, SMALL)?;
-    tell(out, b"its first 871:", &v, 871)?;
-    tell(out, b"one byte added:", &v, 873)
+    tell(out, "small volume:", &v, SMALL)?;
+    tell(out, "its first 871:", &v, 871)?;
+    tell(out, "one byte added:", &v, 873)
 }
 
 // Whether one byte more reads no more, and wants one byte less.
 fn goes_on(a: Reading, b: Reading) -> bool {
-    if a.read != b.read {
-        return false;
+    match (a.verdict, b.verdict) {
+        (Verdict::Open(m), Verdict::Open(n)) => {
+            a.read == b.read && a.radials == b.radials && 0 < m && m - 1 == n
+        }
+        _ => false,
     }
-    if a.radials != b.radials {
-        return false;
-    }
-    let v = a.verdict;
-    let w = b.verdict;
-    let Verdict::Open(m) = v else {
-        return false;
-    };
-    let Verdict::Open(n) = w else {
-        return false;
-    };
-    if m == 0 {
-        return false;
-    }
-    m - 1 == n
 }
 
 // The last length of the run of prefixes that starts with one.
@@ -173,29 +151,21 @@ fn run_end(file: &[u8], first: usize) -> usize
     requires { first ≤ length file.now }
     ensures { (first ≤ result) × (result ≤ length file.now) }
 {
-    let mut last = first;
     let mut r = read_first(file, first);
-    while last < file.len() {
+    for last in first..file.len() {
         let next = read_first(file, last + 1);
         if !goes_on(r, next) {
             return last;
         }
         r = next;
-        last += 1;
     }
-    last
+    file.len()
 }
 
 fn print_run(out: &impl Print, file: &[u8], first: usize, last: usize) -> io::Result<()> {
-    word(out, b"prefixes")?;
-    number(out, first as u64)?;
-    word(out, b" to")?;
-    number(out, last as u64)?;
-    word(out, b":")?;
-    let r = read_first(file, first);
-    let v = r.verdict;
-    print_verdict(out, v)?;
-    word(out, b" to")?;
+    print!(out; "prefixes {first} to {last}:")?;
+    print_verdict(out, read_first(file, first).verdict)?;
+    print!(out; " to")?;
     print_reading(out, read_first(file, last))
 }
 
@@ -219,12 +189,9 @@ fn with_byte(
     value: u8,
 ) -> io::Result<()> {
     if place < 65536 {
-        let old = buf[place];
-        buf[place] = value;
-        word(out, b"at")?;
-        number(out, place as u64)?;
-        number(out, value as u64)?;
-        tell(out, b":", buf, n)?;
+        let old = mem::replace(&mut buf[place], value);
+        print!(out; "at {place} {value}")?;
+        tell(out, ":", buf, n)?;
         buf[place] = old;
     }
     Ok(())
@@ -232,14 +199,10 @@ fn with_byte(
 
 // Every state, and every scan type, is among the numbers 0 to 6; 7 is neither.
 fn with_each(out: &impl Print, buf: &mut [u8; 65536], n: usize, place: usize) -> io::Result<()> {
-    with_byte(out, buf, n, place, 0)?;
-    with_byte(out, buf, n, place, 1)?;
-    with_byte(out, buf, n, place, 2)?;
-    with_byte(out, buf, n, place, 3)?;
-    with_byte(out, buf, n, place, 4)?;
-    with_byte(out, buf, n, place, 5)?;
-    with_byte(out, buf, n, place, 6)?;
-    with_byte(out, buf, n, place, 7)
+    for value in 0..8 {
+        with_byte(out, buf, n, place, value)?;
+    }
+    Ok(())
 }
 
 // Each state in the places of the small volume's two, and then its angles.
@@ -257,25 +220,17 @@ const LAYERS: usize = 3360;
 // An RHI of six layers (document 02, #103): each scan type; each state in the places of its radials', of which five cuts have
 // two and the last has three; every prefix.
 fn layers(out: &impl Print, buf: &mut [u8; 65536]) -> io::Result<()> {
-    tell(out, b"six layers:", buf, LAYERS)?;
-    with_each(out, buf, LAYERS, 324)?;
-    with_each(out, buf, LAYERS, 1952)?;
-    with_each(out, buf, LAYERS, 2052)?;
-    with_each(out, buf, LAYERS, 2152)?;
-    with_each(out, buf, LAYERS, 2252)?;
-    with_each(out, buf, LAYERS, 2388)?;
-    with_each(out, buf, LAYERS, 2488)?;
-    with_each(out, buf, LAYERS, 2588)?;
-    with_each(out, buf, LAYERS, 2688)?;
-    with_each(out, buf, LAYERS, 2824)?;
-    with_each(out, buf, LAYERS, 2924)?;
-    with_each(out, buf, LAYERS, 3024)?;
-    with_each(out, buf, LAYERS, 3124)?;
-    with_each(out, buf, LAYERS, 3260)?;
+    tell(out, "six layers:", buf, LAYERS)?;
+    let places = [
+        324, 1952, 2052, 2152, 2252, 2388, 2488, 2588, 2688, 2824, 2924, 3024, 3124, 3260,
+    ];
+    for place in places {
+        with_each(out, buf, LAYERS, place)?;
+    }
     prefixes(out, first(buf, LAYERS))
 }
 
-fn tell_cloud(out: &impl Print, label: &[u8], buf: &[u8; 65536]) -> io::Result<()> {
+fn tell_cloud(out: &impl Print, label: &str, buf: &[u8; 65536]) -> io::Result<()> {
     tell(out, label, behind(buf, LAYERS), 1216)
 }
 
@@ -283,16 +238,16 @@ fn tell_cloud(out: &impl Print, label: &[u8], buf: &[u8; 65536]) -> io::Result<(
 // volume has latitude and longitude, so a high station is refused there; a low one in the task, where a volume has the
 // polarization and this file a text.
 fn cloud_radar(out: &impl Print, buf: &mut [u8; 65536]) -> io::Result<()> {
-    tell_cloud(out, b"cloud radar:", buf)?;
+    tell_cloud(out, "cloud radar:", buf)?;
     // antenna and ground at 512 and 508 metres
     buf[LAYERS + 74] = 0;
     buf[LAYERS + 75] = 0x44;
     buf[LAYERS + 78] = 0xfe;
     buf[LAYERS + 79] = 0x43;
-    tell_cloud(out, b"cloud radar, high station:", buf)?;
+    tell_cloud(out, "cloud radar, high station:", buf)?;
     // generic type 3
     buf[LAYERS + 8] = 3;
-    tell_cloud(out, b"cloud radar, spectra:", buf)
+    tell_cloud(out, "cloud radar, spectra:", buf)
 }
 
 fn main(rt: HostRuntime) -> io::Result<()> {

@@ -1,9 +1,9 @@
--- Each turn goes on by at least eight bytes and counts one file, so the count stays below the place. Assumes nothing.
-use Rattle.std.proofs.Common.{length, ◌-◌, ◌≡◌, ◌≤◌}
+-- Each turn takes at least eight bytes off what is left and counts one file, so the count stays within the length. Assumes nothing.
+use Rattle.std.proofs.Common.{length, ◌+◌, ◌≤◌}
 use Rattle.hoping.proofs.each.Given as goal
 
-abbrev pub invariant-loop-at : goal.invariant-loop-at
-invariant-loop-at g l = (length l.room ≡ length l.initial.room) × (l.number ≤ l.at)
+abbrev pub invariant-loop-rest : goal.invariant-loop-rest
+invariant-loop-rest g l = l.number + length l.rest ≤ length l.files
 
-abbrev pub decreases-loop-at : goal.decreases-loop-at
-decreases-loop-at g l = length l.files - l.at
+abbrev pub decreases-loop-rest : goal.decreases-loop-rest
+decreases-loop-rest g l = length l.rest

@@ -1,6 +1,0 @@
--- Each turn goes on by a pattern. Assumes nothing.
-use Rattle.std.proofs.Common.{◌-◌}
-use Rattle.numbers.proofs.angles.sweep.Given as goal
-
-abbrev pub decreases-loop-i : goal.decreases-loop-i
-decreases-loop-i g l = l.turns - l.i

@@ -1,6 +1,0 @@
--- Each turn goes on by a gate, up to 20. Assumes nothing.
-use Rattle.std.proofs.Common.{◌-◌}
-use Rattle.questions.proofs.gates_told.sum.Given as goal
-
-abbrev pub decreases-loop-i : goal.decreases-loop-i
-decreases-loop-i l = 20 - l.i
