@@ -1,4 +1,4 @@
-// An angle in hundredths of a degree, from the bits of its IEEE single with no float operation (document 02, #105).
+// An angle in hundredths of a degree, from the bits of its IEEE single with no float operation.
 ghost use Rattle.std.specs.Prelude.{◌<◌};
 
 #[derive(Clone, Copy)]
