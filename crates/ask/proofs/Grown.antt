@@ -21,7 +21,6 @@ use Rattle.reading.specs.Growth.{Same, Grows}
 use Rattle.reading.specs.Reading.{stop, stretches, nth, bytes_of}
 use Rattle.reading.proofs.Grown.{grows}
 use Rattle.ask.specs.declared.places.Where.{Where}
-use Rattle.ask.specs.declared.places.Where.TheVariants.{At}
 use Rattle.ask.specs.declared.tallies.Sums.{Sums}
 use Rattle.ask.specs.Answers.{radial_told, moment_told, data_told, gate_told, RowTold}
 use Rattle.ask.specs.Growth.{gate_asked, RowAsked, Kept, AnswersGrow}

@@ -97,9 +97,10 @@ pub(crate) fn gate_in(h: Moment, bytes: &[u8], i: usize) -> GateAnswer
 {
     if i < gates::gates_in(bytes, h.bin_length) {
         let code = gates::code_at(bytes, h.bin_length, i);
-        return GateAnswer::Answered(gates::tell(coding(h), code));
+        GateAnswer::Answered(gates::tell(coding(h), code))
+    } else {
+        GateAnswer::Refused(32)
     }
-    GateAnswer::Refused(32)
 }
 
 // A gate of the moment of a type in a radial that was found, from 0. A list of questions is its one caller, so that it is inlined

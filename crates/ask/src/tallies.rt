@@ -51,10 +51,7 @@ fn none() -> Sums
 fn blank(b: &[u8]) -> u64
     ensures { result ≡ cond (eqb (radial_at b.now 0).spot_blank 1) 1 0 }
 {
-    if le::u32_at(b, Radial::SPOT_BLANK) == 1 {
-        return 1;
-    }
-    0
+    (le::u32_at(b, Radial::SPOT_BLANK) == 1) as u64
 }
 
 // What a radial adds by the moment that was found in it.
@@ -80,14 +77,12 @@ fn carry(b: &[u8], at: Where) -> Sums
 fn one(file: &[u8], cut: u32, t: u32, wedge: Wedge, s: Stretch) -> Sums
     ensures { result ≡ tally_one file.now cut t wedge s }
 {
-    if s.cut != cut {
-        return none();
-    }
     let b = reading::own(file, s);
-    if wedge.holds(le::u32_at(b, Radial::AZIMUTH)) {
-        return carry(b, places::in_stretch(b, s, t));
+    if s.cut == cut && wedge.holds(le::u32_at(b, Radial::AZIMUTH)) {
+        carry(b, places::in_stretch(b, s, t))
+    } else {
+        none()
     }
-    none()
 }
 
 // The caller has seen that no sum is too large.
@@ -113,28 +108,24 @@ fn plus(a: Sums, b: Sums) -> Sums
 }
 
 // Whether a cut's block is among the blocks that a walk has accepted.
+#[tactic(auto, using(std::proofs::lemmas::Bool::Decides::nat_tests), unfolding(crate::specs::Tallies::cut_accepted, rules::specs::Ranges::within))]
 fn accepted(w: Walk, cut: u32) -> bool
     ensures { result ≡ cut_accepted w cut }
 {
-    if cut == 0 {
-        return false;
-    }
-    if w.plan.cuts < cut {
-        return false;
-    }
-    cut_place(cut) + Cut::SIZE <= w.at
+    1 <= cut && cut <= w.plan.cuts && cut_place(cut) + Cut::SIZE <= w.at
 }
 
+#[tactic(auto, using(std::proofs::lemmas::Bool::Decides::nat_tests), unfolding(crate::specs::Tallies::tally_told))]
 fn told(accepted: bool, t: Tally) -> TallyAnswer
     ensures { told_tally result ≡ tally_told accepted t }
 {
-    if accepted {
-        if t.sums.radials == 0 {
-            return TallyAnswer::Refused(31);
-        }
-        return TallyAnswer::Counted(t);
+    if !accepted {
+        TallyAnswer::Refused(30)
+    } else if t.sums.radials == 0 {
+        TallyAnswer::Refused(31)
+    } else {
+        TallyAnswer::Counted(t)
     }
-    TallyAnswer::Refused(30)
 }
 
 // One pass over the whole radials.
@@ -163,11 +154,13 @@ fn tally_in(file: &[u8], cut: u32, t: u32, wedge: Wedge) -> TallyAnswer
 }
 
 // The tally of a cut and a type in a wedge; from 0 to 0, or between any other two equal ends, of the whole cut.
+#[tactic(auto, unfolding(crate::specs::Tallies::tally_answer))]
 pub fn tally_of(file: &[u8], cut: u32, t: u32, wedge: Wedge) -> TallyAnswer
     ensures { told_tally result ≡ tally_answer file.now cut t wedge }
 {
     if wedge.ok() {
-        return tally_in(file, cut, t, wedge);
+        tally_in(file, cut, t, wedge)
+    } else {
+        TallyAnswer::Refused(61)
     }
-    TallyAnswer::Refused(61)
 }

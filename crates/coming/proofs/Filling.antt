@@ -1,13 +1,13 @@
 -- The test on counts, one moment at a time: taking a moment away keeps it, and where it holds there is a length to take. Assumes nothing.
 use mathlib.Core.Path.{◌≡◌, refl, sym, ap, ◌∙◌}
-use mathlib.Core.Bool.{Bool, true, false, ◌&&◌, cond}
+use mathlib.Core.Bool.{Bool, true, ◌&&◌, cond}
 use mathlib.Core.Logic.{dite}
 use Prim.Native.Nat.{ℕ, suc, ◌+◌, ◌-◌, ◌*◌, ◌/◌, ◌%◌, ◌≤◌, ◌<◌, min}
 use native.Mathlib.Decide.{dec_lt}
 use native.Mathlib.Omega.{arith}
 use lib.Dec.{eqb, leb}
-use borrow.Author.Tests.{le-leb, lt-leb, leb-true, eqb-true, eq-eqb, ne_eqb}
-use Rattle.le.proofs.Tests.{both, fails}
+use borrow.Author.Tests.{le-leb, lt-leb, leb-true, eqb-true, eq-eqb}
+use Rattle.le.proofs.Tests.{both}
 use Rattle.coming.specs.Moments.{can_fill}
 
 -- the same in one form: with n1 = 0 the least is 2 k
@@ -40,27 +40,6 @@ of-fits n1 n2 k r f =
     (λ h. let z : n1 ≡ 0 = omega arith in
     let l : 2 * k ≤ r = omega arith in
     rw (le-leb k (n1 + n2) f.few, le-leb r (32768 * k) f.most, lt-leb 1 n1 (omega arith), le-leb (2 * k) r l, eq-eqb (r % 2) 0 (f.even z)))
-
--- what the tests of the code show
-pub yes : (n1 n2 k r : ℕ) → Fits n1 n2 k r → true ≡ can_fill n1 n2 k r
-yes n1 n2 k r f = sym (of-fits n1 n2 k r f)
-
-pub no-fit : (n1 n2 k r : ℕ) → (Fits n1 n2 k r → ⊥) → false ≡ can_fill n1 n2 k r
-no-fit n1 n2 k r h = sym (fails (can_fill n1 n2 k r) (λ e. h (fits-of n1 n2 k r e)))
-
-pub no-single : (n2 k r : ℕ) → k ≤ n2 → r ≤ 32768 * k → 2 * k ≤ r → eqb (r % 2) 0 ≡ can_fill 0 n2 k r
-unfolding can_fill
-no-single n2 k r a b c = rw (le-leb k (0 + n2) (omega arith), le-leb r (32768 * k) b, le-leb (2 * k) r c)
-
-pub tight : (n1 n2 k r : ℕ) → k ≤ n1 + n2 → r ≤ 32768 * k → k ≤ r → r < 2 * k → leb (k - n1) (r - k) ≡ can_fill n1 n2 k r
-tight n1 n2 k r a b c d =
-    dite (dec_lt (r - k) (k - n1)) (λ h. lt-leb (k - n1) (r - k) h ∙ no-fit n1 n2 k r (λ f. omega (arith, f.least)))
-    (λ h. le-leb (k - n1) (r - k) (omega arith) ∙ yes n1 n2 k r (record { few = a; most = b; least = omega arith; even = λ z. absurd (omega arith) }))
-
-pub level : (k r : ℕ) → k ≡ r / 32768 → eqb (r % 32768) 0 ≡ leb r (32768 * k)
-level k r e =
-    dite (dec_lt 0 (r % 32768)) (λ h. ne_eqb (r % 32768) 0 (λ z. omega arith) ∙ sym (lt-leb r (32768 * k) (omega arith)))
-    (λ h. eq-eqb (r % 32768) 0 (omega arith) ∙ sym (le-leb r (32768 * k) (omega arith)))
 
 -- ---- a moment before: of one byte a gate, of two
 pub back-single : (n1 n2 k r l : ℕ) → 1 ≤ l → l ≤ 32768 → Fits n1 n2 k r → Fits (suc n1) n2 (suc k) (l + r)

@@ -1,6 +1,6 @@
 -- The test on radials answers yes exactly where a schedule exists. Assumes nothing.
-use mathlib.Core.Path.{◌≡◌, refl, sym, ap}
-use mathlib.Core.Bool.{Bool, true, false, ◌&&◌, cond, and-false}
+use mathlib.Core.Path.{◌≡◌, refl, ap}
+use mathlib.Core.Bool.{Bool, true, false, ◌&&◌, cond}
 use mathlib.Core.List.{List, [], ◌∷◌}
 use mathlib.Core.Logic.{dite, ◌↔◌}
 use Prim.Native.Nat.{ℕ, zero, suc, ◌+◌, ◌-◌, ◌*◌, ◌≤◌, ◌<◌}
@@ -8,7 +8,7 @@ use native.Mathlib.Decide.{dec_lt}
 use native.Mathlib.Omega.{arith}
 use lib.Dec.{eqb, leb, ltb, lit≤}
 use lib.ListN.{length}
-use borrow.Author.Tests.{le-leb, lt-leb, leb-true, lt-ltb, le-ltb, ltb-true, ne_eqb, eq-eqb}
+use borrow.Author.Tests.{le-leb, leb-true, lt-ltb, ltb-true, ne_eqb, eq-eqb}
 use Rattle.le.proofs.Tests.{both, leb-same}
 use Rattle.coming.specs.Radials.{Fair, sum, Schedule, radials_can, radials_can_after}
 
@@ -120,24 +120,3 @@ step_back cuts cut in_cut whole false c m e =
     go : (b : Bool) → suc whole + 1 + 2 * (cuts - cut) ≤ 65536 → whole + cond b 2 1 + 2 * (cuts - cut) ≤ 65536
     go true l = omega arith
     go false l = omega arith
-
--- ---- what the tests of the code show
-module _ (cuts cut number sequence : ℕ) where
-  pub too_many : (closes : Bool) → 32768 < cuts - cut → false ≡ radials_can_after cuts cut closes number sequence
-  unfolding radials_can_after
-  too_many true h = sym (lt-leb (sequence + 2 * (cuts - cut)) 65536 (omega arith))
-  too_many false h = rw (lt-leb (sequence + 1 + 2 * (cuts - cut)) 65536 (omega arith)) (sym (and-false (ltb number 1000)))
-
-  pub closing : cuts - cut ≤ 32768 → leb sequence (65536 - 2 * (cuts - cut)) ≡ radials_can_after cuts cut true number sequence
-  unfolding radials_can_after
-  closing h = leb-same sequence (65536 - 2 * (cuts - cut)) (sequence + 2 * (cuts - cut)) 65536 (λ a. omega arith) (λ a. omega arith)
-
-  pub going : cuts - cut ≤ 32768 → number < 1000 → ltb sequence (65536 - 2 * (cuts - cut)) ≡ radials_can_after cuts cut false number sequence
-  unfolding radials_can_after
-  going h l =
-      rw (lt-ltb number 1000 l)
-      (leb-same (suc sequence) (65536 - 2 * (cuts - cut)) (sequence + 1 + 2 * (cuts - cut)) 65536 (λ a. omega arith) (λ a. omega arith))
-
-  pub full : 1000 ≤ number → false ≡ radials_can_after cuts cut false number sequence
-  unfolding radials_can_after
-  full h = rw (le-ltb number 1000 h)

@@ -18,52 +18,24 @@ fn lacks(a: u64, b: u64) -> u64
 fn ones_of(x: u64) -> usize
     ensures { result ≡ ones x }
 {
-    u64::count_ones(x) as usize
-}
-
-// a less b, and 0 where b is more.
-fn less(a: usize, b: usize) -> usize
-    ensures { result ≡ a - b }
-{
-    if a < b { 0 } else { a - b }
-}
-
-// The data of k moments, 32,768 bytes each at the most, can be r bytes.
-fn holds(k: usize, r: usize) -> bool
-    ensures { result ≡ leb r (32768 * k) }
-{
-    let q = r / 32768;
-    if q < k {
-        return true;
-    }
-    if k < q {
-        return false;
-    }
-    r % 32768 == 0
+    x.count_ones() as usize
 }
 
 // k moments, of n types, n1 of them of one byte a gate and the others of two, can have r bytes of data.
+#[tactic(auto, using(std::proofs::lemmas::Bool::Decides::nat_tests), unfolding(crate::specs::Moments::can_fill))]
 fn can_fill(n: usize, n1: usize, k: usize, r: usize) -> bool
     requires { n1 ≤ n }
     ensures { result ≡ can_fill n1 (n - n1) k r }
 {
-    if n < k {
-        return false;
-    }
-    if holds(k, r) {
+    // none is longer than 32,768 bytes
+    if n < k || k < r.div_ceil(32768) {
+        false
+    } else if k <= r / 2 {
         // two bytes for each are enough, whatever their types
-        if k <= r / 2 {
-            if n1 == 0 {
-                return r % 2 == 0;
-            }
-            return true;
-        }
-        if r < k {
-            return false;
-        }
-        return less(k, n1) <= r - k;
+        n1 != 0 || r % 2 == 0
+    } else {
+        k <= r && k.saturating_sub(n1) <= r - k
     }
-    false
 }
 
 // Some `todo` moments, of different types that the mask has and that were not seen, have `rest` bytes of data.
@@ -78,38 +50,27 @@ fn fills(mask: u64, sizes: u64, seen: u64, todo: usize, rest: usize) -> bool
 }
 
 // The same with their headers, 32 bytes each, in what is left of the radial's data.
+#[tactic(auto, using(std::proofs::lemmas::Bool::Decides::nat_tests), unfolding(crate::specs::Moments::moments_can))]
 pub fn moments_can(mask: u64, sizes: u64, seen: u64, todo: usize, left: usize) -> bool
     ensures { result ≡ moments_can mask sizes seen todo left }
 {
-    if left / 32 < todo {
-        return false;
-    }
-    fills(mask, sizes, seen, todo, left - 32 * todo)
-}
-
-// The cuts after this one.
-fn later_cuts(cuts: u32, cut: u32) -> usize
-    ensures { result ≡ cuts - cut }
-{
-    if cuts < cut { 0 } else { (cuts - cut) as usize }
+    todo <= left / 32 && fills(mask, sizes, seen, todo, left - 32 * todo)
 }
 
 // Behind a radial header, by its number in the cut and its sequence: the cut's closing radial can come, where this is not it, and two
 // radials in each later cut.
+#[tactic(auto, using(std::proofs::lemmas::Bool::Decides::nat_tests), unfolding(crate::specs::Radials::radials_can_after))]
 pub fn radials_can_after(cuts: u32, cut: u32, closes: bool, number: usize, sequence: usize) -> bool
     ensures { result ≡ radials_can_after cuts cut closes number sequence }
 {
-    let later = later_cuts(cuts, cut);
+    let later = cuts.saturating_sub(cut) as usize;
     if 32768 < later {
         return false;
     }
     let spare = 65536 - 2 * later;
     if closes {
-        return sequence <= spare;
-    }
-    if number < 1000 {
-        sequence < spare
+        sequence <= spare
     } else {
-        false
+        number < 1000 && sequence < spare
     }
 }

@@ -45,13 +45,11 @@ fn is_hundredths(c: Coding, code: u16, h: i32) -> bool
     let twice = 2 * (c.scale as u64);
     let value = 200 * (code as u64) + c.scale as u64 + twice * 0x8000_0000;
     let least = 200 * (c.offset as u64) + (code < c.offset) as u64 + twice * raised(h);
-    if value < least {
-        return false;
-    }
-    value - least < twice
+    least <= value && value - least < twice
 }
 
 // The code of a value; for any other gate the offset, which is 0 hundredths.
+#[tactic(auto, using(std::proofs::lemmas::Bool::Decides::nat_tests))]
 fn measured(c: Coding, kind: u8, code: u16) -> u16
     ensures { result ≡ cond (eqb kind 5) code c.offset }
 {
@@ -64,52 +62,37 @@ fn shows(c: Coding, code: u16, kind: u8, h: i32) -> bool
 {
     let gate = gates::gate_of(c, code);
     let own = gate.kind();
-    if own != kind {
-        return false;
-    }
-    is_hundredths(c, measured(c, own, code), h)
+    own == kind && is_hundredths(c, measured(c, own, code), h)
 }
 
 // ---- a row
-
-// The lesser of the two.
-fn least(a: usize, b: usize) -> usize
-    ensures { result ≡ min a b }
-{
-    if a < b { a } else { b }
-}
 
 // How many gates agree, from the first.
 fn agree(bytes: &[u8], bin: u16, c: Coding, kinds: &[u8], hundredths: &[i32]) -> usize
     ensures { result ≡ agreed c (codes_of bin bytes.now) kinds.now hundredths.now }
 {
-    let n = least(
-        gates::gates_in(bytes, bin),
-        least(kinds.len(), hundredths.len()),
-    );
-    let mut i = 0;
-    while i < n {
+    let n = gates::gates_in(bytes, bin)
+        .min(kinds.len())
+        .min(hundredths.len());
+    for i in 0..n {
         if !shows(c, gates::code_at(bytes, bin, i), kinds[i], hundredths[i]) {
             return i;
         }
-        i += 1;
     }
-    i
+    n
 }
 
+#[tactic(auto, using(std::proofs::lemmas::Bool::Decides::nat_tests), unfolding(crate::specs::Decoded::checked))]
 fn compare(bytes: &[u8], bin: u16, c: Coding, kinds: &[u8], hundredths: &[i32]) -> CheckAnswer
     ensures { told_check result ≡ answered (checked c (codes_of bin bytes.now) kinds.now hundredths.now) }
 {
     let n = gates::gates_in(bytes, bin);
     let i = agree(bytes, bin, c, kinds, hundredths);
-    if i == n {
-        if kinds.len() == n {
-            if hundredths.len() == n {
-                return CheckAnswer::Same;
-            }
-        }
+    if i == n && kinds.len() == n && hundredths.len() == n {
+        CheckAnswer::Same
+    } else {
+        CheckAnswer::Differs(i)
     }
-    CheckAnswer::Differs(i)
 }
 
 // ---- a file

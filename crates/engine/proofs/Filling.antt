@@ -1,11 +1,12 @@
 -- Both buffers after some of the questions, and what a finished or a refused list promises. Assumes nothing.
-use Prim.Native.Nat.{ℕ, ◌+◌, ◌%◌, ◌≤◌, ◌<◌}
+use Prim.Native.Nat.{ℕ, ◌+◌, ◌%◌, ◌≤◌, ◌<◌, min}
 use native.Mathlib.Nat.{mod-eq_of_lt}
 use native.Mathlib.Omega.{arith}
 use mathlib.Core.Bool.{Bool, true, false}
 use mathlib.Core.List.{List}
 use mathlib.Core.Path.{◌≡◌, refl}
-use borrow.Author.Tests.{le-leb, lt-leb}
+use borrow.Author.Tests.{le-leb}
+use Rattle.std.proofs.lemmas.Bool.Decides.{nat_tests}
 use lib.Dec.{ltb, lit<}
 use lib.IntN.{ℤ}
 use lib.ListN.{length, get_or, set}
@@ -92,11 +93,8 @@ module _ (f x : List ℕ) (qs : List Question) (k : List ℕ) (h : List ℤ) whe
   unfolding answer_of buffer_of
   no_room r e = record { answer = rw (r, e); kinds = rw (r, e); hundredths = rw (r, e) }
 
-  pub short-kinds : right_for f x ≡ true → length k < length qs → Answers f x qs k h (Refused 33) k h
-  short-kinds r l = no_room r (rw (lt-leb (length qs) (length k) l))
-
-  pub short-hundredths : right_for f x ≡ true → length qs ≤ length k → length h < length qs → Answers f x qs k h (Refused 33) k h
-  short-hundredths r m l = no_room r (rw (le-leb (length qs) (length k) m, lt-leb (length qs) (length h) l))
+  pub short : right_for f x ≡ true → min (length k) (length h) < length qs → Answers f x qs k h (Refused 33) k h
+  short r l = no_room r (grind (arith, nat_tests))
 
   pub all-filled : {n : ℕ} {k' : List ℕ} {h' : List ℤ} → right_for f x ≡ true → n ≡ length qs → length qs ≤ length k → length qs ≤ length h
       → k' ≡ filled (kinds_of f qs) k → h' ≡ filled (hundredths_of f qs) h → Answers f x qs k h (Filled n) k' h'

@@ -78,22 +78,6 @@ fn hundredths_of(answer: GateAnswer) -> i32
     }
 }
 
-// How many questions there are: as many as the shortest list has entries.
-fn shortest(radials: usize, types: usize, gates: usize) -> usize
-    ensures { result ≡ min radials (min types gates) }
-{
-    if radials < types {
-        if radials < gates {
-            return radials;
-        }
-        return gates;
-    }
-    if types < gates {
-        return types;
-    }
-    gates
-}
-
 // Each of n questions, where the lists and the buffers have as many entries.
 fn fill(
     file: &[u8],
@@ -110,12 +94,10 @@ fn fill(
     requires n_in_bounds { (n ≤ length kinds.old) × (n ≤ length hundredths.old) }
     ensures { (kinds.new ≡ filled (kinds_of file.now (asked radials.now types.now gates.now)) kinds.old) × (hundredths.new ≡ filled (hundredths_of file.now (asked radials.now types.now gates.now)) hundredths.old) }
 {
-    let mut i = 0;
-    while i < n {
+    for i in 0..n {
         let answer = gate(file, index, radials[i], types[i], gates[i]);
         kinds[i] = kind(answer);
         hundredths[i] = hundredths_of(answer);
-        i += 1;
     }
 }
 
@@ -134,11 +116,8 @@ pub fn answer(
     if !index::right(file, index) {
         return ListAnswer::Refused(59);
     }
-    let n = shortest(radials.len(), types.len(), gates.len());
-    if kinds.len() < n {
-        return ListAnswer::Refused(33);
-    }
-    if hundredths.len() < n {
+    let n = radials.len().min(types.len()).min(gates.len());
+    if kinds.len().min(hundredths.len()) < n {
         return ListAnswer::Refused(33);
     }
     fill(file, index, radials, types, gates, n, kinds, hundredths);

@@ -3,13 +3,14 @@
 use mathlib.Core.Path.{◌≡◌, refl, sym, ap, ◌∙◌}
 use mathlib.Core.Bool.{Bool, true, false}
 use mathlib.Core.List.{List, [], ◌∷◌, ◌++◌, map}
-use Prim.Native.Nat.{ℕ, zero, suc, ◌+◌, ◌≤◌, ◌<◌}
+use Prim.Native.Nat.{ℕ, zero, suc, ◌+◌, ◌≤◌, ◌<◌, min}
 use native.Mathlib.Numerals.{add-one}
 use native.Mathlib.Omega.{arith}
 use lib.IntN.{ℤ, pos}
 use lib.ListN.{length, get_or, set, take, drop, length-set, length-map, get_or-append, get_or-map}
 use lib.Seq.{drop-cons, take-suc, take-length, length-take-le, set_at, append_snoc}
-use borrow.Author.Tests.{le-leb, lt-leb}
+use borrow.Author.Tests.{le-leb}
+use Rattle.std.proofs.lemmas.Bool.Decides.{nat_tests}
 use Rattle.gates.specs.declared.Coding.{Coding}
 use Rattle.gates.specs.declared.RowAnswer.{RowAnswer}
 use Rattle.gates.specs.declared.RowAnswer.TheVariants.{Filled, Refused}
@@ -75,11 +76,8 @@ module _ (c : Coding) (codes k : List ℕ) (h : List ℤ) where
   no_room : rooms codes k h ≡ false → Rowed c codes k h (Refused 33) k h
   no_room e = record { answer = rw e; kinds = rw e; hundredths = rw e }
 
-  pub short-kinds : length k < length codes → Rowed c codes k h (Refused 33) k h
-  short-kinds l = no_room (rw (lt-leb (length codes) (length k) l))
-
-  pub short-hundredths : length codes ≤ length k → length h < length codes → Rowed c codes k h (Refused 33) k h
-  short-hundredths m l = no_room (rw (le-leb (length codes) (length k) m, lt-leb (length codes) (length h) l))
+  pub short : min (length k) (length h) < length codes → Rowed c codes k h (Refused 33) k h
+  short l = no_room (grind (arith, nat_tests))
 
 -- ---- what a filled row holds
 

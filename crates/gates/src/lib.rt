@@ -62,20 +62,18 @@ fn quotient(c: Coding, code: u16) -> f64
     ensures { result ≡ float_of c code }
 {
     if c.scale == 0 {
-        return 0.0;
+        0.0
+    } else {
+        (difference(c, code) as f64) / (c.scale as f64)
     }
-    (difference(c, code) as f64) / (c.scale as f64)
 }
 
 // Types 14 (HCL) and 15 (CF) hold classes and flags.
+#[tactic(auto, using(std::proofs::lemmas::Bool::Decides::nat_tests), unfolding(crate::specs::Gates::is_measurement))]
 fn is_measurement(data_type: u32) -> bool
     ensures { result ≡ is_measurement data_type }
 {
-    match data_type {
-        14 => false,
-        15 => false,
-        _ => true,
-    }
+    !matches!(data_type, 14 | 15)
 }
 
 // What a code says that is not special. A class keeps the raw code.
@@ -108,10 +106,11 @@ fn magnitude(n: u16, scale: u16) -> u32
     ensures { result ≡ magnitude_of n scale }
 {
     if scale == 0 {
-        return 0;
+        0
+    } else {
+        let s = scale as u32;
+        (200 * (n as u32) + s) / (2 * s)
     }
-    let s = scale as u32;
-    (200 * (n as u32) + s) / (2 * s)
 }
 
 // The sign is put on last, so that a half goes away from zero on either side.
@@ -170,25 +169,17 @@ pub fn gates_in(bytes: &[u8], bin: u16) -> usize
     }
 }
 
-fn pair(low: u8, high: u8) -> u16
-    ensures { result ≡ low + 256 * high }
-{
-    low as u16 + 256 * (high as u16)
-}
-
 // The code of gate i, 0 where there is no such gate.
 pub fn code_at(bytes: &[u8], bin: u16, i: usize) -> u16
     ensures { result ≡ get_or (codes_of bin bytes.now) i 0 }
 {
     if gates_in(bytes, bin) <= i {
-        return 0;
+        0
+    } else if bin == 1 {
+        bytes[i] as u16
+    } else {
+        u16::from_le_bytes([bytes[2 * i], bytes[2 * i + 1]])
     }
-    if bin == 1 {
-        return bytes[i] as u16;
-    }
-    let low = bytes[2 * i];
-    let high = bytes[2 * i + 1];
-    pair(low, high)
 }
 
 // ---- a row
@@ -204,12 +195,8 @@ fn table(c: Coding) -> [i32; 256]
     ensures { Tabled c result }
 {
     let mut t = [0i32; 256];
-    let mut code: u16 = 0;
-    while code < 256 {
-        let told = tell(c, code);
-        let h = told.hundredths;
-        t[code as usize] = h;
-        code += 1;
+    for (code, h) in t.iter_mut().enumerate() {
+        *h = tell(c, code as u16).hundredths;
     }
     t
 }
@@ -220,15 +207,11 @@ fn row_of_bytes(bytes: &[u8], c: Coding, kinds: &mut [u8], hundredths: &mut [i32
     ensures { Rowed c bytes.now kinds.old hundredths.old result kinds.new hundredths.new }
 {
     let t = table(c);
-    let mut i = 0;
-    while i < bytes.len() {
-        let code = bytes[i];
-        let gate = gate_of(c, code as u16);
-        kinds[i] = gate.kind();
-        hundredths[i] = t[code as usize];
-        i += 1;
+    for (i, code) in bytes.iter().enumerate() {
+        kinds[i] = gate_of(c, *code as u16).kind();
+        hundredths[i] = t[*code as usize];
     }
-    RowAnswer::Filled(i)
+    RowAnswer::Filled(bytes.len())
 }
 
 // A row of n codes of either width, where there is room.
@@ -243,16 +226,12 @@ fn row_of_codes(
     requires { (n ≡ length (codes_of bin bytes.now)) × (n ≤ length kinds.old) × (n ≤ length hundredths.old) }
     ensures { Rowed c (codes_of bin bytes.now) kinds.old hundredths.old result kinds.new hundredths.new }
 {
-    let mut i = 0;
-    while i < n {
+    for i in 0..n {
         let told = tell(c, code_at(bytes, bin, i));
-        let gate = told.gate;
-        kinds[i] = gate.kind();
-        let h = told.hundredths;
-        hundredths[i] = h;
-        i += 1;
+        kinds[i] = told.gate.kind();
+        hundredths[i] = told.hundredths;
     }
-    RowAnswer::Filled(i)
+    RowAnswer::Filled(n)
 }
 
 // Fills a kind and the hundredths for each gate, where both buffers are long enough.
@@ -260,16 +239,13 @@ pub fn row(bytes: &[u8], bin: u16, c: Coding, kinds: &mut [u8], hundredths: &mut
     ensures { Rowed c (codes_of bin bytes.now) kinds.old hundredths.old result kinds.new hundredths.new }
 {
     let n = gates_in(bytes, bin);
-    if kinds.len() < n {
-        return RowAnswer::Refused(33);
+    if kinds.len().min(hundredths.len()) < n {
+        RowAnswer::Refused(33)
+    } else if bin == 1 {
+        row_of_bytes(bytes, c, kinds, hundredths)
+    } else {
+        row_of_codes(bytes, bin, n, c, kinds, hundredths)
     }
-    if hundredths.len() < n {
-        return RowAnswer::Refused(33);
-    }
-    if bin == 1 {
-        return row_of_bytes(bytes, c, kinds, hundredths);
-    }
-    row_of_codes(bytes, bin, n, c, kinds, hundredths)
 }
 
 // ---- counts
@@ -324,13 +300,9 @@ fn bump(a: Counts, gate: Gate) -> Counts
 pub fn counts_of(bytes: &[u8], bin: u16, c: Coding) -> Counts
     ensures { result ≡ counts_of (map (kind_of c) (codes_of bin bytes.now)) }
 {
-    let n = gates_in(bytes, bin);
     let mut u = Counts::none();
-    let mut i = 0;
-    while i < n {
-        let gate = gate_of(c, code_at(bytes, bin, i));
-        u = bump(u, gate);
-        i += 1;
+    for i in 0..gates_in(bytes, bin) {
+        u = bump(u, gate_of(c, code_at(bytes, bin, i)));
     }
     u
 }

@@ -1,20 +1,16 @@
 -- The start of an index in its two forms, by the number of cuts, and bytes compared with it one by one. Assumes nothing.
-use Prim.Native.Nat.{ℕ, suc, ◌+◌, ◌≤◌, ◌<◌}
-use native.Mathlib.Nat.{zero-add}
+use Prim.Native.Nat.{ℕ, suc, ◌≤◌}
 use native.Mathlib.Omega.{arith}
-use mathlib.Core.Bool.{Bool, true, false}
-use mathlib.Core.List.{List}
-use mathlib.Core.Logic.{dite}
-use mathlib.Core.Path.{◌≡◌, refl, sym, ap, ◌∙◌}
-use native.Mathlib.Decide.{dec_lt}
-use borrow.Author.Tests.{eqb-true, eqb-false}
+use mathlib.Core.Bool.{Bool, true, false, ◌&&◌}
+use mathlib.Core.List.{List, [], ◌∷◌}
+use mathlib.Core.Path.{◌≡◌, refl, ap, ◌∙◌}
 use lib.Dec.{eqb, leb}
-use lib.ListN.{length, get_or}
+use lib.ListN.{length, take}
+use lib.Pointwise.{pointwise}
 use Rattle.le.specs.Le.{part}
-use Rattle.le.proofs.Laws.{length-bytes, part-all, part_at, part_same}
+use Rattle.le.proofs.Laws.{length-bytes, part-here}
 use Rattle.index.specs.Answer.{same}
 use Rattle.index.specs.Index.{old_start, new_start, most_old, start_of}
-use Rattle.index.proofs.Same.{is_same, not_same}
 
 pub start-old : (cuts : ℕ) → leb cuts most_old ≡ true → start_of cuts ≡ old_start cuts
 unfolding start_of
@@ -40,20 +36,13 @@ length-start cuts = go (leb cuts most_old) refl
     go true e = let l = length-old cuts in rw (start-old cuts e) (omega arith, omega arith)
     go false e = let l = length-new cuts in rw (start-new cuts e) (omega arith, omega arith)
 
--- whether x begins with s: a byte that differs says no, and the last one decides where all before it agree
-module _ (s x : List ℕ) where
-  pub begins-not : (i : ℕ) → i < length s → (get_or s i 0 ≡ get_or x i 0 → ⊥) → false ≡ same s (part (length s) x 0)
-  begins-not i h n =
-      sym (not_same s (part (length s) x 0) (λ e. n (ap (λ (l : List ℕ). get_or l i 0) e ∙ part_at (length s) x 0 i h ∙ ap (λ (p : ℕ). get_or x p 0) (zero-add i))))
+-- whether x begins with s
+pointwise-same : (a b : List ℕ) → pointwise eqb a b ≡ same a b
+unfolding same
+pointwise-same [] [] = refl
+pointwise-same [] (y ∷ b) = refl
+pointwise-same (x ∷ a) [] = refl
+pointwise-same (x ∷ a) (y ∷ b) = ap (λ (t : Bool). eqb x y && t) (pointwise-same a b)
 
-  pub begins-if : (i : ℕ) → length s ≡ suc i → ((j : ℕ) → j < i → get_or s j 0 ≡ get_or x j 0) → eqb (get_or s i 0) (get_or x i 0) ≡ same s (part (length s) x 0)
-  begins-if i l h = go (eqb (get_or s i 0) (get_or x i 0)) refl
-    where
-      each : get_or s i 0 ≡ get_or x i 0 → (j : ℕ) → j < length s → get_or s (0 + j) 0 ≡ get_or x (0 + j) 0
-      each e j k = rw (zero-add j) (dite (dec_lt j i) (h j) (λ n. let q : j ≡ i = omega arith in rw q e))
-
-      go : (b : Bool) → eqb (get_or s i 0) (get_or x i 0) ≡ b → b ≡ same s (part (length s) x 0)
-      go true e =
-          let all = part_same (length s) s x 0 0 (each (eqb-true (get_or s i 0) (get_or x i 0) e)) in
-          sym (is_same s (part (length s) x 0) (sym (part-all (length s) s refl) ∙ all))
-      go false e = begins-not i (omega arith) (eqb-false (get_or s i 0) (get_or x i 0) e)
+pub begins : (s x : List ℕ) → length s ≤ length x → pointwise eqb s (take (length s) x) ≡ same s (part (length s) x 0)
+begins s x l = pointwise-same s (take (length s) x) ∙ ap (same s) (part-here (length s) x 0 (omega arith))

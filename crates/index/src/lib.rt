@@ -36,20 +36,19 @@ enum Layout {
 }
 
 // What the places take is divided and not multiplied, so that no product is too large.
+#[tactic(auto, using(std::proofs::lemmas::Bool::Decides::nat_tests), unfolding(crate::specs::Making::layout_for))]
 fn layout_for(cuts: u32, radials: usize, len: usize) -> Layout
     ensures { result ≡ layout_for cuts radials len }
 {
     let places = making::second_at(cuts) + 4;
-    if len < places {
-        return Layout::Short;
-    }
-    if (len - places) / 8 < radials {
-        return Layout::Short;
-    }
-    Layout::Fits {
-        cuts,
-        radials,
-        size: places + 8 * radials,
+    if len < places || (len - places) / 8 < radials {
+        Layout::Short
+    } else {
+        Layout::Fits {
+            cuts,
+            radials,
+            size: places + 8 * radials,
+        }
     }
 }
 
@@ -95,12 +94,7 @@ pub fn right(file: &[u8], index: &[u8]) -> bool
             cuts,
             radials,
             size,
-        } => {
-            if size < index.len() {
-                return false;
-            }
-            making::stands(file, index, cuts, radials)
-        }
+        } => index.len() <= size && making::stands(file, index, cuts, radials),
         Layout::Short => false,
         Layout::Unfinished => false,
     }

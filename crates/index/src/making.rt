@@ -25,22 +25,21 @@ enum Entry {
 }
 
 // Which entry is due, by how many radials are to come, the header of the next, and the cut that is being counted.
+#[tactic(auto, using(std::proofs::lemmas::Bool::Decides::nat_tests), unfolding(crate::specs::Making::entry_of))]
 fn entry_due(left: usize, header: Radial, cut: usize, cuts: u32) -> Entry
     ensures { result ≡ entry_of left header.elevation_number cut cuts }
 {
     if left == 0 {
-        if (cuts as usize) < cut {
-            return Entry::End;
+        if cut <= cuts as usize {
+            Entry::Count
+        } else {
+            Entry::End
         }
-        return Entry::Count;
+    } else if cut <= cuts as usize && cut < header.elevation_number as usize {
+        Entry::Count
+    } else {
+        Entry::Place
     }
-    if (cuts as usize) < cut {
-        return Entry::Place;
-    }
-    if cut < header.elevation_number as usize {
-        return Entry::Count;
-    }
-    Entry::Place
 }
 
 // Where the first radial starts: behind the last cut's block.
@@ -62,10 +61,7 @@ fn behind(at: usize, header: Radial) -> usize
 fn old_form(cuts: u32) -> bool
     ensures { result ≡ leb cuts most_old }
 {
-    match cuts {
-        0..=50 => true,
-        _ => false,
-    }
+    cuts <= 50
 }
 
 // The start of an index in either form, how long it is, and how it is put.
@@ -92,9 +88,9 @@ fn put_start(room: &mut [u8], cuts: u32)
 {
     if old_form(cuts) {
         le::put(room, 0, &old_start(cuts));
-        return;
+    } else {
+        le::put(room, 0, &new_start(cuts));
     }
-    le::put(room, 0, &new_start(cuts));
 }
 
 // Whether the start stands in an index, which has five bytes at the least.
@@ -103,17 +99,10 @@ fn start_stands(index: &[u8], cuts: u32) -> bool
     ensures { result ≡ same (start_of cuts) (part (length (start_of cuts)) index.now 0) }
 {
     if old_form(cuts) {
-        let start = old_start(cuts);
-        return start[0] == index[0];
+        index.starts_with(&old_start(cuts))
+    } else {
+        index.starts_with(&new_start(cuts))
     }
-    let start = new_start(cuts);
-    if start[0] != index[0] {
-        return false;
-    }
-    if start[1] != index[1] {
-        return false;
-    }
-    start[2] == index[2]
 }
 
 // Where the second section starts.

@@ -13,10 +13,7 @@ pub enum Place {
 fn old_cuts(index: &[u8]) -> u8
     ensures { result ≡ old_cuts index.now }
 {
-    if index.len() == 0 {
-        return 0;
-    }
-    index[0]
+    index.first().copied().unwrap_or(0)
 }
 
 // Where the number of radials stands, ahead of their places: at the farthest behind the counts of 65,535 cuts, the most that two bytes
@@ -26,9 +23,10 @@ fn radials_at(index: &[u8]) -> usize
 {
     let cuts = old_cuts(index);
     if cuts == 0 {
-        return 3 + 2 * (le::u16_at(index, 1) as usize);
+        3 + 2 * (le::u16_at(index, 1) as usize)
+    } else {
+        1 + 2 * (cuts as usize)
     }
-    1 + 2 * (cuts as usize)
 }
 
 // Where the radial with a sequence number is, from 1. Any bytes are taken for an index, and any number for a radial's.

@@ -3,7 +3,6 @@
 use Rattle.std.proofs.Common.{◌≡◌, ℕ, ◌+◌, ◌≤◌, Bool, true, false, cond, ltb, List, [], ◌∷◌, ◌++◌, length, sym, refl, ap, ◌∙◌, arith}
 use mathlib.Core.Path.{subst⁻¹}
 use Rattle.le.proofs.Laws.{length-patch}
-use Rattle.walk.specs.declared.due.Due.TheVariants as due
 use Rattle.walk.specs.declared.due.Walk.{Walk}
 use Rattle.walk.specs.Due.{is_end}
 use Rattle.reading.specs.declared.step.Step.{Step}

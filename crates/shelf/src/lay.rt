@@ -113,11 +113,8 @@ fn lay_over(w: Walk, cuts: &[u8], old: &[u8], from: usize, room: &mut [u8]) -> W
 pub(crate) fn lay_all(first: Walk, cuts: &[u8], old: &[u8], room: &mut [u8])
     ensures { room.new ≡ (lay_first (radials_in (length old.now)) cuts.now old.now (record { walk = first; room = room.old })).room }
 {
-    let n = file::radials_in(old.len());
     let mut w = first;
-    let mut k = 0;
-    while k < n {
+    for k in 0..file::radials_in(old.len()) {
         w = lay_over(w, cuts, old, k * OldRadial::SIZE, room);
-        k += 1;
     }
 }

@@ -104,12 +104,9 @@ fn next_data(p: Put, room: &[u8], size: usize) -> Put
 fn settle_cuts(p: Put, cuts: &[u8], room: &[u8]) -> Put
     ensures { result ≡ settle_cuts (length cuts.now / cut_size) cuts.now (length room.now) p }
 {
-    let n = cuts.len() / Cut::SIZE;
     let mut q = p;
-    let mut k = 0;
-    while k < n {
+    for k in 0..cuts.len() / Cut::SIZE {
         q = next_cut(q, room, Cut::read(cuts, k * Cut::SIZE));
-        k += 1;
     }
     q
 }
@@ -119,9 +116,10 @@ fn settle_rest(p: Put, room: &[u8], size: usize) -> Put
     ensures { result ≡ settle_rest (length room.now) size p }
 {
     if size == 0 {
-        return p;
+        p
+    } else {
+        next_data(p, room, size)
     }
-    next_data(p, room, size)
 }
 
 pub(crate) fn settle_ours(g: Generic, s: Site, t: Task, cuts: &[u8], room: &[u8]) -> Put
@@ -201,13 +199,10 @@ pub(crate) fn settle_over(p: Put, cuts: &[u8], room: &[u8], o: OldRadial, at: us
 pub(crate) fn settle_all(p: Put, cuts: &[u8], old: &[u8], room: &[u8]) -> Put
     ensures { result ≡ settle_first (radials_in (length old.now)) cuts.now old.now (length room.now) p }
 {
-    let n = file::radials_in(old.len());
     let mut q = p;
-    let mut k = 0;
-    while k < n {
+    for k in 0..file::radials_in(old.len()) {
         let at = k * OldRadial::SIZE;
         q = settle_over(q, cuts, room, OldRadial::read(old, at), at);
-        k += 1;
     }
     q
 }

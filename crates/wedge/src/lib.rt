@@ -20,26 +20,18 @@ pub struct Wedge {
 
 impl Wedge {
     // Number 61: start and end are 0..35,999.
+    #[tactic(auto, unfolding(crate::specs::Wedge::wedge_ok))]
     pub fn ok(self) -> bool
         ensures { result ≡ wedge_ok self }
     {
-        match self.start {
-            0..=35999 => match self.end {
-                0..=35999 => true,
-                _ => false,
-            },
-            _ => false,
-        }
+        self.start < 36000 && self.end < 36000
     }
 
     // Whether the azimuth with these bits lies in it. What is no azimuth lies in no wedge.
     pub fn holds(self, bits: u32) -> bool
         ensures { result ≡ in_wedge self bits }
     {
-        if angles::azimuth_ok(bits) {
-            return self.spans(hundredths(bits));
-        }
-        false
+        angles::azimuth_ok(bits) && self.spans(hundredths(bits))
     }
 
     // By the whole hundredths of a value: nothing lies between what these and what the value itself reach.
@@ -47,9 +39,9 @@ impl Wedge {
         ensures { (x : Float) → Whole x h → result ≡ between self.start self.end x }
     {
         if self.start < self.end {
-            if self.start <= h { h < self.end } else { false }
+            self.start <= h && h < self.end
         } else {
-            if self.start <= h { true } else { h < self.end }
+            self.start <= h || h < self.end
         }
     }
 }

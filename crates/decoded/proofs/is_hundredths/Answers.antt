@@ -3,6 +3,7 @@ use mathlib.Core.Path.{◌≡◌, sym, ap, ◌∙◌}
 use Prim.Native.Nat.{◌*◌, ◌≤◌}
 use native.Mathlib.Nat.{mul-le-mul}
 use native.Mathlib.Omega.{arith}
+use borrow.Author.Tests.{lt-leb}
 use lib.Dec.{ltb}
 use lib.IntN.{ℤ, pos, ◌+ℤ◌}
 use mir.Val.{bool_byte}
@@ -47,16 +48,17 @@ overflow_add-least-2 c =
     let b = bit (ltb a.code a.c.offset) in
     record { fits = omega arith }
 
-up-2 : (c : goal.Then-value-least) → pos c.raised.result ≡ c.args.h +ℤ pos 2147483648
+up-2 : (c : goal.Then-least-value) → pos c.raised.result ≡ c.args.h +ℤ pos 2147483648
 up-2 c = c.raised.ensures ∙ ap (λ (x : ℤ). x +ℤ pos 2147483648) (to_z-of_z c.ranges.h)
 
-pub returns-then-value-least : goal.returns-then-value-least
-returns-then-value-least c =
-    sym (too-low c.args.c c.args.code c.raised.result c.args.h c.ranges.h (up-2 c) (omega arith) c.if-value-least.true)
+pub returns-then-least-value : goal.returns-then-least-value
+returns-then-least-value c =
+    told c.args.c c.args.code c.raised.result c.args.h c.ranges.h (up-2 c) (omega arith) c.if-least-value.true
 
-up-3 : (c : goal.Else-value-least) → pos c.raised.result ≡ c.args.h +ℤ pos 2147483648
+up-3 : (c : goal.Else-least-value) → pos c.raised.result ≡ c.args.h +ℤ pos 2147483648
 up-3 c = c.raised.ensures ∙ ap (λ (x : ℤ). x +ℤ pos 2147483648) (to_z-of_z c.ranges.h)
 
-pub returns : goal.returns
-returns c =
-    told c.args.c c.args.code c.raised.result c.args.h c.ranges.h (up-3 c) (omega arith) c.if-value-least.false
+pub returns-else-least-value : goal.returns-else-least-value
+returns-else-least-value c =
+    lt-leb _ _ c.if-least-value.false
+    ∙ sym (too-low c.args.c c.args.code c.raised.result c.args.h c.ranges.h (up-3 c) (omega arith) c.if-least-value.false)

@@ -1,7 +1,6 @@
-use mathlib.Core.Path.{sym, ◌∙◌}
-use Prim.Native.Nat.{◌+◌, ◌*◌, ◌<◌}
+use mathlib.Core.Path.{sym}
 use native.Mathlib.Omega.{arith}
-use lib.ListN.{length, get_or-eq_default}
+use lib.ListN.{get_or-eq_default}
 use Rattle.gates.specs.Codes.{codes_of}
 use Rattle.gates.proofs.Codes.{length-one, codes-one, length_two, code-two}
 use Rattle.gates.proofs.code_at.Goals as goal
@@ -19,51 +18,27 @@ returns-then-bin-eq1 c =
     let a = c.args in
     rw (codes-one a.bin a.bytes.now c.if-bin-eq1.true)
 
-pub returns : goal.returns
-returns c =
-    let a = c.args in
-    c.pair.ensures ∙ sym (code-two a.bin a.bytes.now c.if-bin-eq1.false a.i (omega arith))
+pub overflow_mul-i : goal.overflow_mul-i
+overflow_mul-i c = let a = c.args in omega (arith, length_two a.bin a.bytes.now c.if-bin-eq1.false)
 
--- the gate's last byte is there
-one-there : (c : goal.After-shared_slice_known-then-bin-eq1-1-unread) → c.args.i < length c.args.bytes.now
-one-there c =
+pub bounds-bytes-i-else-bin-eq1 : goal.bounds-bytes-i-else-bin-eq1
+bounds-bytes-i-else-bin-eq1 c = let a = c.args in omega (arith, length_two a.bin a.bytes.now c.if-bin-eq1.false)
+
+pub overflow_mul-i-else-bin-eq1 : goal.overflow_mul-i-else-bin-eq1
+overflow_mul-i-else-bin-eq1 c = let a = c.args in omega (arith, length_two a.bin a.bytes.now c.if-bin-eq1.false)
+
+pub overflow_add-i : goal.overflow_add-i
+overflow_add-i c = let a = c.args in omega (arith, length_two a.bin a.bytes.now c.if-bin-eq1.false)
+
+pub bounds-bytes-i-else-bin-eq1-2 : goal.bounds-bytes-i-else-bin-eq1-2
+bounds-bytes-i-else-bin-eq1-2 c = let a = c.args in omega (arith, length_two a.bin a.bytes.now c.if-bin-eq1.false)
+
+pub returns-else-bin-eq1 : goal.returns-else-bin-eq1
+returns-else-bin-eq1 c =
     let a = c.args in
-    omega (arith, length-one a.bin a.bytes.now c.if-bin-eq1.true)
+    let e = c.from_le_bytes.ensures in
+    let f = code-two a.bin a.bytes.now c.if-bin-eq1.false a.i (omega arith) in
+    omega arith
 
 pub bounds-bytes-i : goal.bounds-bytes-i
-bounds-bytes-i c = one-there c
-
-two-there : (c : goal.Else-bin-eq1) → 2 * c.args.i + 1 < length c.args.bytes.now
-two-there c =
-    let a = c.args in
-    omega (arith, length_two a.bin a.bytes.now c.if-bin-eq1.false)
-
-pub overflow_mul-low : goal.overflow_mul-low
-overflow_mul-low c = omega (arith, two-there c)
-
-two-there-2 : (c : goal.After-shared_slice_known-2-1-unread) → 2 * c.args.i + 1 < length c.args.bytes.now
-two-there-2 c =
-    let a = c.args in
-    omega (arith, length_two a.bin a.bytes.now c.if-bin-eq1.false)
-
-pub bounds-bytes-i-2 : goal.bounds-bytes-i-2
-bounds-bytes-i-2 c = omega (arith, two-there-2 c)
-
-two-there-3 : (c : goal.After-shared_slice_known-2-1) → 2 * c.args.i + 1 < length c.args.bytes.now
-two-there-3 c =
-    let a = c.args in
-    omega (arith, length_two a.bin a.bytes.now c.if-bin-eq1.false)
-
-pub overflow_mul-high : goal.overflow_mul-high
-overflow_mul-high c = omega (arith, two-there-3 c)
-
-pub overflow_add-high : goal.overflow_add-high
-overflow_add-high c = omega (arith, two-there-3 c)
-
-two-there-4 : (c : goal.After-shared_slice_known-3-1-unread) → 2 * c.args.i + 1 < length c.args.bytes.now
-two-there-4 c =
-    let a = c.args in
-    omega (arith, length_two a.bin a.bytes.now c.if-bin-eq1.false)
-
-pub bounds-bytes-i-3 : goal.bounds-bytes-i-3
-bounds-bytes-i-3 c = two-there-4 c
+bounds-bytes-i c = let a = c.args in omega (arith, length-one a.bin a.bytes.now c.if-bin-eq1.true)

@@ -7,26 +7,20 @@ use Rattle.gates.specs.Codes.{codes_of}
 use Rattle.gates.proofs.Counting.{counts-turn, counts_all}
 use Rattle.gates.proofs.counts_of.Goals as goal
 
-pub loop-i-init : goal.loop-i-init
-loop-i-init c = (omega arith, c.none-u.ensures)
-
 pub bump-u-requires : goal.bump-u-requires
 bump-u-requires c =
     let a = c.args in
     let codes = codes_of a.bin a.bytes.now in
-    rw c.loop-i.invariant.1 (omega (arith, counts_all a.c (take c.loop-i.i codes), length-take-le c.loop-i.i codes (omega arith)))
+    rw c.loop-i.invariant (omega (arith, counts_all a.c (take c.loop-i.i codes), length-take-le c.loop-i.i codes (omega arith)))
 
 pub loop-i-preserved : goal.loop-i-preserved
 loop-i-preserved c =
     let a = c.args in
-    let codes = codes_of a.bin a.bytes.now in (
-      omega arith,
-      rw (c.bump-u.ensures, c.loop-i.invariant.1, c.gate_of-gate.ensures, c.code_at.ensures) (counts-turn a.c codes c.loop-i.i (omega arith)),
-    )
+    rw (c.bump-u.ensures, c.loop-i.invariant, c.gate_of.ensures, c.code_at.ensures) (counts-turn a.c (codes_of a.bin a.bytes.now) c.loop-i.i (omega arith))
 
 pub returns : goal.returns
 returns c =
     let a = c.args in
     let codes = codes_of a.bin a.bytes.now in
     let all : c.loop-i.i ≡ length codes = omega arith in
-    c.loop-i.invariant.1 ∙ rw (all, take-length codes)
+    c.loop-i.invariant ∙ rw (all, take-length codes)

@@ -7,6 +7,6 @@ pub returns-then-scale-eq0 : goal.returns-then-scale-eq0
 unfolding magnitude_of
 returns-then-scale-eq0 c = rw c.if-scale-eq0.true (rw div-zero)
 
-pub returns : goal.returns
+pub returns-else-scale-eq0 : goal.returns-else-scale-eq0
 unfolding magnitude_of
-returns c = search rules
+returns-else-scale-eq0 c = search rules

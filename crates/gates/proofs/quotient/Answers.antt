@@ -12,9 +12,9 @@ pub returns-then-c-eq0 : goal.returns-then-c-eq0
 unfolding float_of of_bits
 returns-then-c-eq0 c = let a = c.args in rw (eq-eqb a.c.scale 0 c.if-c-eq0.true) refl
 
-pub returns : goal.returns
+pub returns-else-c-eq0 : goal.returns-else-c-eq0
 unfolding float_of
-returns c =
+returns-else-c-eq0 c =
     let a = c.args in
     rw (
       c.difference.ensures,

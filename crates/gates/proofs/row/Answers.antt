@@ -1,18 +1,13 @@
 use native.Mathlib.Omega.{arith}
 use Rattle.gates.specs.Codes.{codes_of}
 use Rattle.gates.proofs.Codes.{codes-one, length-one}
-use Rattle.gates.proofs.Rows.{short-kinds, short-hundredths}
+use Rattle.gates.proofs.Rows.{short}
 use Rattle.gates.proofs.row.Goals as goal
 
-pub returns-then-kinds-n : goal.returns-then-kinds-n
-returns-then-kinds-n c =
+pub returns-then-min-n : goal.returns-then-min-n
+returns-then-min-n c =
     let a = c.args in
-    short-kinds a.c (codes_of a.bin a.bytes.now) a.kinds.now a.hundredths.now (omega arith)
-
-pub returns-then-hundredths-n : goal.returns-then-hundredths-n
-returns-then-hundredths-n c =
-    let a = c.args in
-    short-hundredths a.c (codes_of a.bin a.bytes.now) a.kinds.now a.hundredths.now (omega arith) (omega arith)
+    short a.c (codes_of a.bin a.bytes.now) a.kinds.now a.hundredths.now (omega arith)
 
 pub row_of_bytes-requires : goal.row_of_bytes-requires
 row_of_bytes-requires c =

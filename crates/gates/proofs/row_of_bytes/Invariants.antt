@@ -1,11 +1,6 @@
 -- The loop's invariant: the first i places of either buffer are filled. Assumes nothing.
-use Prim.Native.Nat.{◌-◌, ◌≤◌}
-use lib.ListN.{length}
 use Rattle.gates.proofs.Rows.{Begun}
 use Rattle.gates.proofs.row_of_bytes.Given as goal
 
 abbrev pub invariant-loop-i : goal.invariant-loop-i
-invariant-loop-i l = (l.i ≤ length l.bytes) × Begun l.c l.bytes l.initial.kinds l.initial.hundredths l.i l.kinds l.hundredths
-
-abbrev pub decreases-loop-i : goal.decreases-loop-i
-decreases-loop-i l = length l.bytes - l.i
+invariant-loop-i l = Begun l.c l.bytes l.initial.kinds l.initial.hundredths l.i l.kinds l.hundredths

@@ -1,9 +1,13 @@
-use borrow.Author.Tests.{eq-eqb, ne_eqb}
+use mathlib.Core.Bool.{Bool, true, false, cond}
+use mathlib.Core.Path.{◌≡◌, refl}
+use lib.Dec.{eqb}
+use mir.Val.{bool_byte}
 use Rattle.ask.proofs.Tallying.{blank-is}
 use Rattle.ask.proofs.tallies.blank.Goals as goal
 
-pub returns-then-u32_at-eq1 : goal.returns-then-u32_at-eq1
-returns-then-u32_at-eq1 c = rw (blank-is c.args.b.now, ← c.u32_at.ensures, eq-eqb _ _ c.if-u32_at-eq1.true)
+bit : (b : Bool) → bool_byte b ≡ cond b 1 0
+bit true = refl
+bit false = refl
 
 pub returns : goal.returns
-returns c = rw (blank-is c.args.b.now, ← c.u32_at.ensures, ne_eqb _ _ c.if-u32_at-eq1.false)
+returns c = rw (blank-is c.args.b.now, ← c.u32_at.ensures) (bit (eqb c.u32_at.result 1))

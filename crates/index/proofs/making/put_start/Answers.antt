@@ -13,8 +13,8 @@ returns-then-old_form c =
     c.put.ensures
     ∙ ap (λ (l : List ℕ). stored (length l) c.args.room.now 0 l) (c.old_start.ensures ∙ sym e)
 
-pub returns : goal.returns
-returns c =
+pub returns-else-old_form : goal.returns-else-old_form
+returns-else-old_form c =
     let e = start-new c.args.cuts (sym c.old_form.ensures ∙ c.if-old_form.false) in
-    c.put-2.ensures
+    c.put-else-old_form.ensures
     ∙ ap (λ (l : List ℕ). stored (length l) c.args.room.now 0 l) (c.new_start.ensures ∙ sym e)

@@ -1,12 +1,16 @@
-use native.Mathlib.Omega.{arith}
-use mathlib.Core.Path.{sym}
+-- The first byte, and 0 where there is none. Assumes nothing.
+use Rattle.std.proofs.Common.{◌≡◌, ℕ, List, [], ◌∷◌, ap, ◌∙◌, arith}
+use Rattle.std.specs.Option.{unwrap_or}
+use Rattle.std.specs.List.{slice_get}
+use Rattle.std.specs.Prelude.{Option}
 use Rattle.le.specs.Le.{le}
-use Rattle.le.proofs.Laws.{le-beyond}
 use Rattle.index.proofs.said.old_cuts.Goals as goal
 
-pub returns-then-index-eq0 : goal.returns-then-index-eq0
-returns-then-index-eq0 c = let h = c.if-index-eq0.true in sym (le-beyond 1 c.args.index.now 0 (omega arith))
+front : (x : List ℕ) → unwrap_or (slice_get x 0) 0 ≡ le 1 x 0
+unfolding le
+front [] = omega arith
+front (b ∷ x) = omega arith
 
 pub returns : goal.returns
-unfolding le
-returns c = omega arith
+returns c =
+    c.unwrap_or.ensures ∙ ap (λ (o : Option ℕ). unwrap_or o 0) (c.copied.ensures ∙ c.first.ensures.value) ∙ front c.args.index.now

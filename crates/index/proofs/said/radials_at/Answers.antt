@@ -13,9 +13,9 @@ returns-then-cuts-eq0 c =
     (rw (e, ← c.u16_at.ensures), omega arith)
 
 -- the old form
-pub returns : goal.returns
+pub returns-else-cuts-eq0 : goal.returns-else-cuts-eq0
 unfolding radials_at cuts_said counts_at
-returns c =
+returns-else-cuts-eq0 c =
     let x = c.args.index.now in
     let e = ne_eqb (old_cuts x) 0 (λ z. c.if-cuts-eq0.false (c.old_cuts-cuts.ensures ∙ z)) in
     (rw (e, ← c.old_cuts-cuts.ensures), omega arith)

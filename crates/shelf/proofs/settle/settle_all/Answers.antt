@@ -1,5 +1,5 @@
 -- `settle_all` meets its promise. The loop's invariant: the first k old radials are settled. Assumes nothing.
-use Rattle.std.proofs.Common.{◌≡◌, ℕ, ◌+◌, ◌-◌, List, length, refl, ap, ◌∙◌, ap₂, add-one, arith}
+use Rattle.std.proofs.Common.{◌≡◌, ℕ, ◌+◌, List, length, refl, ap, ◌∙◌, ap₂, add-one, arith}
 use Rattle.writer.specs.declared.order.Put.{Put}
 use Rattle.old.specs.declared.record.OldRadial.{OldRadial}
 use Rattle.old.specs.Old.{old_at}
@@ -18,18 +18,18 @@ module _ (c f : List ℕ) (room : ℕ) (p : Put) where
   turn k ex eo ey = rw add-one (ey ∙ ap₂ (λ (o : OldRadial) (x : Put). settle_over c room o (radial_place k) x) eo ex)
 
 pub loop-k-init : goal.loop-k-init
-loop-k-init c = (omega arith, none _ _ _ _)
+loop-k-init c = none _ _ _ _
 
 pub overflow_mul-at : goal.overflow_mul-at
-overflow_mul-at c = let n = c.radials_in-n.ensures in omega arith
+overflow_mul-at c = let n = c.radials_in-k-end.ensures in omega arith
 
 pub loop-k-preserved : goal.loop-k-preserved
 loop-k-preserved c =
-    (omega arith, turn _ _ _ _ c.loop-k.k c.loop-k.invariant.1 c.read.ensures c.settle_over-q.ensures)
+    turn _ _ _ _ c.loop-k.k c.loop-k.invariant c.read.ensures c.settle_over-q.ensures
 
 pub returns : goal.returns
 returns c =
     let a = c.args in
-    let n = c.radials_in-n.ensures in
+    let n = c.radials_in-k-end.ensures in
     let all : c.loop-k.k ≡ radials_in (length a.old.now) = omega arith in
-    c.loop-k.invariant.1 ∙ ap (λ (k : ℕ). settle_first k a.cuts.now a.old.now (length a.room.now) a.p) all
+    c.loop-k.invariant ∙ ap (λ (k : ℕ). settle_first k a.cuts.now a.old.now (length a.room.now) a.p) all

@@ -1,5 +1,5 @@
 -- `settle_cuts` meets its promise. The loop's invariant: the first k cut records are settled. Assumes nothing.
-use Rattle.std.proofs.Common.{◌≡◌, ℕ, ◌+◌, ◌-◌, ◌*◌, ◌/◌, List, length, refl, ap, ◌∙◌, ap₂, add-one, arith}
+use Rattle.std.proofs.Common.{◌≡◌, ℕ, ◌+◌, ◌*◌, ◌/◌, List, length, refl, ap, ◌∙◌, ap₂, add-one, arith}
 use Rattle.cut.specs.declared.Cut.{Cut}
 use Rattle.cut.specs.Cut.{cut_at, cut_size}
 use Rattle.writer.specs.declared.order.Put.{Put}
@@ -17,14 +17,14 @@ module _ (c : List ℕ) (room : ℕ) (p : Put) where
   turn k ex er ey = rw add-one (ey ∙ ap₂ (λ (r : Cut) (x : Put). settle_next room (cut r) x) er ex)
 
 pub loop-k-init : goal.loop-k-init
-loop-k-init c = (omega arith, none _ _ _)
+loop-k-init c = none _ _ _
 
 pub loop-k-preserved : goal.loop-k-preserved
 loop-k-preserved c =
-    (omega arith, turn _ _ _ c.loop-k.k c.loop-k.invariant.1 c.read.ensures c.next_cut-q.ensures)
+    turn _ _ _ c.loop-k.k c.loop-k.invariant c.read.ensures c.next_cut-q.ensures
 
 pub returns : goal.returns
 returns c =
     let a = c.args in
     let all : c.loop-k.k ≡ length a.cuts.now / cut_size = omega arith in
-    c.loop-k.invariant.1 ∙ ap (λ (k : ℕ). settle_cuts k a.cuts.now (length a.room.now) a.p) all
+    c.loop-k.invariant ∙ ap (λ (k : ℕ). settle_cuts k a.cuts.now (length a.room.now) a.p) all

@@ -7,6 +7,6 @@ pub returns-then-size-eq0 : goal.returns-then-size-eq0
 unfolding settle_rest
 returns-then-size-eq0 c = rw (eq-eqb _ 0 c.if-size-eq0.true)
 
-pub returns : goal.returns
+pub returns-else-size-eq0 : goal.returns-else-size-eq0
 unfolding settle_rest
-returns c = rw (ne_eqb _ 0 c.if-size-eq0.false) c.next_data.ensures
+returns-else-size-eq0 c = rw (ne_eqb _ 0 c.if-size-eq0.false) c.next_data.ensures

@@ -14,7 +14,7 @@ returns-then-azimuth_ok c =
     rw (azimuth b c.ranges.bits.fits, ← c.azimuth_ok.ensures, c.if-azimuth_ok.true)
     (c.spans.ensures (turned (of_bits binary32 b)) c.hundredths.ensures)
 
-pub returns : goal.returns
+pub returns-else-azimuth_ok : goal.returns-else-azimuth_ok
 unfolding in_wedge
-returns c =
+returns-else-azimuth_ok c =
     rw (azimuth c.args.bits c.ranges.bits.fits, ← c.azimuth_ok.ensures, c.if-azimuth_ok.false)
