@@ -7,15 +7,14 @@ use mathlib.Core.Path.{◌≡◌, refl, sym, ap, subst, ◌∙◌}
 use borrow.Author.Tests.{eqb-true}
 use lib.Dec.{eqb, ltb}
 use lib.ListN.{length, get_or}
+use Rattle.std.specs.Prelude.{Some}
 use Rattle.moment.specs.declared.Moment.{Moment}
 use Rattle.moment.specs.Moment.{moment_at}
 use Rattle.gates.specs.Codes.{codes_of}
 use Rattle.gates.specs.Gates.{is_measurement, told_of, Values, values_of}
 use Rattle.gates.specs.Telling.{refused, answered}
 use Rattle.gates.proofs.Gates.{kind-back}
-use Rattle.moments.specs.declared.Found as moment
 use Rattle.moments.specs.Moments.{moments_of, find_in, data_at}
-use Rattle.reading.specs.declared.Found.TheVariants as found
 use Rattle.reading.specs.declared.Stretch.{Stretch}
 use Rattle.reading.specs.Reading.{stretches, nth, bytes_of}
 use Rattle.reading.proofs.Sequences.{nth-sequence}
@@ -28,19 +27,19 @@ use Rattle.ask.specs.Places.{where_is}
 use Rattle.ask.proofs.Sounding.{stands}
 
 -- a search finds a moment of the type that it seeks
-pub find-type : (b : List ℕ) (t p : ℕ) (ats : List ℕ) → find_in b t ats ≡ moment.TheVariants.At p → (moment_at b p).data_type ≡ t
+pub find-type : (b : List ℕ) (t p : ℕ) (ats : List ℕ) → find_in b t ats ≡ Some p → (moment_at b p).data_type ≡ t
 unfolding find_in
 find-type b t p [] e = absurd (let z : ◌≡◌ {A = ℕ} 0 1 = cc in omega arith)
 find-type b t p (at ∷ ats) e = go (eqb (moment_at b at).data_type t) refl (λ q. find-type b t p ats q)
   where
-    go : (z : Bool) → eqb (moment_at b at).data_type t ≡ z → (find_in b t ats ≡ moment.TheVariants.At p → (moment_at b p).data_type ≡ t) → (moment_at b p).data_type ≡ t
+    go : (z : Bool) → eqb (moment_at b at).data_type t ≡ z → (find_in b t ats ≡ Some p → (moment_at b p).data_type ≡ t) → (moment_at b p).data_type ≡ t
     go true q later =
-        let here : cond true (moment.TheVariants.At at) (find_in b t ats) ≡ moment.TheVariants.At p = rw q at e in
+        let here : cond true (Some at) (find_in b t ats) ≡ Some p = rw q at e in
         let same : at ≡ p = cc in
         subst (λ (x : ℕ). (moment_at b x).data_type ≡ t) same (eqb-true _ t q)
     go false q later = later (rw q at e)
 
-its-sequence : (f : List ℕ) (n : ℕ) (s : Stretch) → nth (stretches f) n ≡ found.There s → (radial_of_file f n).header.sequence ≡ n
+its-sequence : (f : List ℕ) (n : ℕ) (s : Stretch) → nth (stretches f) n ≡ Some s → (radial_of_file f n).header.sequence ≡ n
 unfolding radial_told
 its-sequence f n s e = ap (λ (r : RadialAnswer). r.header.sequence) (ap (radial_told f) e) ∙ nth-sequence f n s e
 

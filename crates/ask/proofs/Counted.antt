@@ -10,6 +10,7 @@ use borrow.Author.Tests.{eq-eqb, ne_eqb, lt-ltb}
 use lib.Dec.{eqb}
 use lib.ListN.{length, get_or, take}
 use lib.Seq.{take-suc, take-length}
+use Rattle.std.specs.Prelude.{Option, Some, None}
 use Rattle.moment.specs.Moment.{moment_at}
 use Rattle.radial.specs.declared.Radial.{Radial}
 use Rattle.radial.specs.Radial.{radial_at}
@@ -21,9 +22,7 @@ use Rattle.gates.specs.Counting.{count_of, in_order, total_of}
 use Rattle.gates.specs.Gates.{is_measurement, kind_of, told_of}
 use Rattle.gates.proofs.Counting.{count-append, count_none, counts_all, in_order_lem, sum-in-order}
 use Rattle.gates.proofs.Gates.{kind-back}
-use Rattle.moments.specs.declared.Found as moment
 use Rattle.moments.specs.Moments.{moments_of, find_in, data_at}
-use Rattle.reading.specs.declared.Found.TheVariants.{There}
 use Rattle.reading.specs.declared.Stretch.{Stretch}
 use Rattle.reading.specs.Reading.{stretches, nth, bytes_of}
 use Rattle.reading.specs.Tiling.{WholeRadial, AllWhole}
@@ -50,7 +49,7 @@ coding_at b p = coding_of (moment_at b p)
 -- ---- a radial that carries the type
 
 -- the header that is answered of a whole radial is that of its own stretch
-header_is : (f : List ℕ) (n : ℕ) (s : Stretch) → nth (stretches f) n ≡ There s → (radial_of_file f n).header ≡ radial_at (bytes_of f s) 0
+header_is : (f : List ℕ) (n : ℕ) (s : Stretch) → nth (stretches f) n ≡ Some s → (radial_of_file f n).header ≡ radial_at (bytes_of f s) 0
 unfolding radial_told
 header_is f n s e = rw e (sym (own-radial f s (nth-placed f n s e)))
 
@@ -112,7 +111,7 @@ module _ (f : List ℕ) (cut t : ℕ) (w : Wedge) where
   elsewhere : (s : Stretch) → (s.cut ≡ cut → ⊥) → tally_one f cut t w s ≡ no_sums
   elsewhere s d = rw (ne_eqb s.cut cut d)
 
-  outside : (n : ℕ) (s : Stretch) → nth (stretches f) n ≡ There s → in_wedge w (radial_of_file f n).header.azimuth ≡ false → tally_one f cut t w s ≡ no_sums
+  outside : (n : ℕ) (s : Stretch) → nth (stretches f) n ≡ Some s → in_wedge w (radial_of_file f n).header.azimuth ≡ false → tally_one f cut t w s ≡ no_sums
   outside n s e o =
       let there : in_wedge w (radial_at (bytes_of f s) 0).azimuth ≡ false = ap (λ (r : Radial). in_wedge w r.azimuth) (sym (header_is f n s e)) ∙ o in
       rw there (go (eqb s.cut cut))
@@ -121,7 +120,7 @@ module _ (f : List ℕ) (cut t : ℕ) (w : Wedge) where
       go true = refl
       go false = refl
 
-  without : (n : ℕ) (s : Stretch) → nth (stretches f) n ≡ There s → where_is f n t ≡ NoMoment → tally_one f cut t w s ≡ no_sums
+  without : (n : ℕ) (s : Stretch) → nth (stretches f) n ≡ Some s → where_is f n t ≡ NoMoment → tally_one f cut t w s ≡ no_sums
   unfolding in_found carried
   without n s e o =
       let no : moment_in f t s ≡ NoMoment = rw e at o in
@@ -154,10 +153,10 @@ module _ (f : List ℕ) (t : ℕ) (w : Wedge) where
   unfolding in_stretch carried gates_at count_of
   carried-gates s whole h = go (find_in (bytes_of f s) t (moments_of (bytes_of f s))) refl
     where
-      go : (v : moment.Found) → find_in (bytes_of f s) t (moments_of (bytes_of f s)) ≡ v → total_of (carried (bytes_of f s) (in_stretch s v)).counts ≡ gates_at (bytes_of f s) (in_stretch s v)
-      go (moment.TheVariants.At p) e =
+      go : (v : Option ℕ) → find_in (bytes_of f s) t (moments_of (bytes_of f s)) ≡ v → total_of (carried (bytes_of f s) (in_stretch s v)).counts ≡ gates_at (bytes_of f s) (in_stretch s v)
+      go (Some p) e =
           counts_all (coding_at (bytes_of f s) p) (codes_at (bytes_of f s) p) ∙ (whole-sound f t s p whole h e).gates
-      go moment.TheVariants.Nowhere e = refl
+      go None e = refl
 
   over-radials : (cut : ℕ) (ss : List Stretch) → (sums_over (tally_one f cut t w) ss).radials ≡ sum_over (λ s. (tally_one f cut t w s).radials) ss
   unfolding sums_over sum_over
@@ -192,16 +191,16 @@ module _ (f : List ℕ) (t : ℕ) (w : Wedge) where
   unfolding in_stretch carried
   carried-astray m s is = go (find_in (bytes_of f s) t (moments_of (bytes_of f s))) refl
     where
-      type-is : (p : ℕ) (z : Bool) → find_in (bytes_of f s) t (moments_of (bytes_of f s)) ≡ moment.TheVariants.At p → is_measurement (moment_at (bytes_of f s) p).data_type ≡ z → m ≡ z
+      type-is : (p : ℕ) (z : Bool) → find_in (bytes_of f s) t (moments_of (bytes_of f s)) ≡ Some p → is_measurement (moment_at (bytes_of f s) p).data_type ≡ z → m ≡ z
       type-is p z e k = sym is ∙ ap is_measurement (sym (find-type (bytes_of f s) t p (moments_of (bytes_of f s)) e)) ∙ k
 
       here : (m : Bool) (p : ℕ) → ((z : Bool) → is_measurement (moment_at (bytes_of f s) p).data_type ≡ z → m ≡ z) → strays m (carried (bytes_of f s) (At s p)) ≡ 0
       here true p h = count_none (coding_at (bytes_of f s) p) 6 (codes_at (bytes_of f s) p) (λ code k. true≢false (h false (kind-back (coding_at (bytes_of f s) p) code false k).0))
       here false p h = count_none (coding_at (bytes_of f s) p) 5 (codes_at (bytes_of f s) p) (λ code k. false≢true (h true (kind-back (coding_at (bytes_of f s) p) code true k).0))
 
-      go : (v : moment.Found) → find_in (bytes_of f s) t (moments_of (bytes_of f s)) ≡ v → strays m (carried (bytes_of f s) (in_stretch s v)) ≡ 0
-      go (moment.TheVariants.At p) e = here m p (λ z k. type-is p z e k)
-      go moment.TheVariants.Nowhere e = none-astray m
+      go : (v : Option ℕ) → find_in (bytes_of f s) t (moments_of (bytes_of f s)) ≡ v → strays m (carried (bytes_of f s) (in_stretch s v)) ≡ 0
+      go (Some p) e = here m p (λ z k. type-is p z e k)
+      go None e = none-astray m
 
   over-astray : (m : Bool) (cut : ℕ) (ss : List Stretch) → is_measurement t ≡ m → strays m (sums_over (tally_one f cut t w) ss) ≡ 0
   unfolding sums_over

@@ -7,13 +7,13 @@ use mathlib.Core.Path.{◌≡◌, refl, subst}
 use borrow.Author.Tests.{leb-true, le-leb}
 use lib.Dec.{leb}
 use lib.ListN.{length}
+use Rattle.std.specs.Prelude.{Some}
 use Rattle.le.proofs.Tests.{both}
 use Rattle.rules.specs.Ranges.{within}
 use Rattle.wedge.specs.declared.Wedge.{Wedge}
 use Rattle.walk.specs.declared.due.Due.{Due}
 use Rattle.walk.specs.declared.due.Due.TheVariants as due
 use Rattle.walk.specs.declared.due.Walk.{Walk}
-use Rattle.reading.specs.declared.Found.TheVariants.{There}
 use Rattle.reading.specs.declared.Stretch.{Stretch}
 use Rattle.reading.specs.declared.step.Step.TheVariants.{Took}
 use Rattle.walk.specs.Due.{at_start, cut_place}
@@ -44,7 +44,7 @@ all_placed f = each-radial f (AllPlaced f) tt (λ w s ss o h r. (record { header
 
 -- ---- the stretch with a sequence number
 
-pub nth-kept : (l r : List Stretch) (n : ℕ) (s : Stretch) → nth l n ≡ There s → nth (l ++ r) n ≡ There s
+pub nth-kept : (l r : List Stretch) (n : ℕ) (s : Stretch) → nth l n ≡ Some s → nth (l ++ r) n ≡ Some s
 unfolding nth
 nth-kept [] r n s e = cc
 nth-kept (x ∷ l) r zero s e = e
@@ -53,14 +53,14 @@ nth-kept (x ∷ l) r (suc (suc n)) s e = nth-kept l r (suc n) s e
 
 -- what holds of each holds of it
 pub nth_of : (All : List Stretch → Type 0) (P : Stretch → Type 0) → ((s : Stretch) (l : List Stretch) → All (s ∷ l) → P s × All l)
-    → (l : List Stretch) (n : ℕ) (s : Stretch) → All l → nth l n ≡ There s → P s
+    → (l : List Stretch) (n : ℕ) (s : Stretch) → All l → nth l n ≡ Some s → P s
 unfolding nth
 nth_of All P each [] n s h e = absurd (let z : ◌≡◌ {A = ℕ} 0 1 = cc in omega arith)
 nth_of All P each (x ∷ l) zero s h e = absurd (let z : ◌≡◌ {A = ℕ} 0 1 = cc in omega arith)
 nth_of All P each (x ∷ l) (suc zero) s h e = let z : x ≡ s = cc in subst P z (each x l h).0
 nth_of All P each (x ∷ l) (suc (suc n)) s h e = nth_of All P each l (suc n) s (each x l h).1 e
 
-pub nth-placed : (f : List ℕ) (n : ℕ) (s : Stretch) → nth (stretches f) n ≡ There s → Placed f s
+pub nth-placed : (f : List ℕ) (n : ℕ) (s : Stretch) → nth (stretches f) n ≡ Some s → Placed f s
 nth-placed f n s e = nth_of (AllPlaced f) (Placed f) (λ s l h. h) (stretches f) n s (all_placed f) e
 
 -- the radials of A add to a tally of the longer file what they add to one of A

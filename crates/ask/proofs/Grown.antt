@@ -6,16 +6,14 @@ use mathlib.Core.Logic.{◌⊎◌, inl, inr}
 use mathlib.Core.Path.{◌≡◌, refl, sym, ap, transport, ◌∙◌}
 use lib.IntN.{ℤ}
 use lib.ListN.{length}
+use Rattle.std.specs.Prelude.{Option, Some, None}
 use Rattle.gates.specs.declared.RowAnswer.{RowAnswer}
 use Rattle.gates.specs.Telling.{refused}
 use Rattle.le.proofs.Laws.{part_in}
 use Rattle.radial.specs.Radial.{radial_of, radial_at}
 use Rattle.wedge.specs.declared.Wedge.{Wedge}
 use Rattle.wedge.specs.Wedge.{wedge_ok}
-use Rattle.moments.specs.declared.Found as moment
 use Rattle.moments.specs.Moments.{moments_of, find_in}
-use Rattle.reading.specs.declared.Found.{Found}
-use Rattle.reading.specs.declared.Found.TheVariants as found
 use Rattle.reading.specs.declared.Stretch.{Stretch}
 use Rattle.reading.specs.Growth.{Same, Grows}
 use Rattle.reading.specs.Reading.{stop, stretches, nth, bytes_of}
@@ -32,11 +30,11 @@ use Rattle.ask.proofs.Tallying.{sums-append, told-31, told-61, told-counted, tol
 module _ (A C : List ℕ) (some : 0 < length C) where
   -- ---- a radial that is whole in A
 
-  module _ (n : ℕ) (s : Stretch) (here : nth (stretches A) n ≡ found.There s) where
+  module _ (n : ℕ) (s : Stretch) (here : nth (stretches A) n ≡ Some s) where
     g : Grows A C
     g = grows A C some
 
-    there : nth (stretches (A ++ C)) n ≡ found.There s
+    there : nth (stretches (A ++ C)) n ≡ Some s
     there = ap (λ (l : List Stretch). nth l n) g.radials ∙ nth-kept (stretches A) g.later n s here
 
     same : bytes_of (A ++ C) s ≡ bytes_of A s
@@ -59,25 +57,25 @@ module _ (A C : List ℕ) (some : 0 < length C) where
     placed t = rw here
 
     -- an answer looks at the file only in the radial's own stretch
-    moment-same : (v : moment.Found) → moment_told (A ++ C) (in_stretch s v) ≡ moment_told A (in_stretch s v)
+    moment-same : (v : Option ℕ) → moment_told (A ++ C) (in_stretch s v) ≡ moment_told A (in_stretch s v)
     unfolding in_stretch moment_told
-    moment-same (moment.TheVariants.At p) = rw same
-    moment-same moment.TheVariants.Nowhere = refl
+    moment-same (Some p) = rw same
+    moment-same None = refl
 
-    data-same : (v : moment.Found) → data_told (A ++ C) (in_stretch s v) ≡ data_told A (in_stretch s v)
+    data-same : (v : Option ℕ) → data_told (A ++ C) (in_stretch s v) ≡ data_told A (in_stretch s v)
     unfolding in_stretch data_told
-    data-same (moment.TheVariants.At p) = rw same
-    data-same moment.TheVariants.Nowhere = refl
+    data-same (Some p) = rw same
+    data-same None = refl
 
-    gate_same : (v : moment.Found) (i : ℕ) → gate_told (A ++ C) (in_stretch s v) i ≡ gate_told A (in_stretch s v) i
+    gate_same : (v : Option ℕ) (i : ℕ) → gate_told (A ++ C) (in_stretch s v) i ≡ gate_told A (in_stretch s v) i
     unfolding in_stretch gate_told
-    gate_same (moment.TheVariants.At p) i = rw same
-    gate_same moment.TheVariants.Nowhere i = refl
+    gate_same (Some p) i = rw same
+    gate_same None i = refl
 
-    row_same : (v : moment.Found) (k k' : List ℕ) (h h' : List ℤ) (r : RowAnswer) → RowTold (A ++ C) (in_stretch s v) k h r k' h' ≡ RowTold A (in_stretch s v) k h r k' h'
+    row_same : (v : Option ℕ) (k k' : List ℕ) (h h' : List ℤ) (r : RowAnswer) → RowTold (A ++ C) (in_stretch s v) k h r k' h' ≡ RowTold A (in_stretch s v) k h r k' h'
     unfolding in_stretch RowTold
-    row_same (moment.TheVariants.At p) k k' h h' r = rw same
-    row_same moment.TheVariants.Nowhere k k' h h' r = refl
+    row_same (Some p) k k' h h' r = rw same
+    row_same None k k' h h' r = refl
 
     row_kept : (t : ℕ) (k k' : List ℕ) (h h' : List ℤ) (r : RowAnswer) → RowAsked (A ++ C) n t k h r k' h' ≡ RowAsked A n t k h r k' h'
     row_kept t k k' h h' r =
@@ -99,13 +97,13 @@ module _ (A C : List ℕ) (some : 0 < length C) where
 
   -- ---- any gate
 
-  nowhere : (n t i : ℕ) → nth (stretches A) n ≡ found.Nowhere → gate_asked A n t i ≡ refused 30 0
+  nowhere : (n t i : ℕ) → nth (stretches A) n ≡ None → gate_asked A n t i ≡ refused 30 0
   unfolding in_found gate_told
   nowhere n t i e = rw e
 
-  gate-grows : (n t i : ℕ) (v : Found) → nth (stretches A) n ≡ v → (gate_asked A n t i ≡ refused 30 0) ⊎ (gate_asked (A ++ C) n t i ≡ gate_asked A n t i)
-  gate-grows n t i found.Nowhere e = inl (nowhere n t i e)
-  gate-grows n t i (found.There s) e = inr ((kept n s e).gate t i)
+  gate-grows : (n t i : ℕ) (v : Option Stretch) → nth (stretches A) n ≡ v → (gate_asked A n t i ≡ refused 30 0) ⊎ (gate_asked (A ++ C) n t i ≡ gate_asked A n t i)
+  gate-grows n t i None e = inl (nowhere n t i e)
+  gate-grows n t i (Some s) e = inr ((kept n s e).gate t i)
 
   -- ---- tallies: the longer file's sums are A's with what later radials add
 

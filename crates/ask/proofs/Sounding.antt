@@ -17,7 +17,7 @@ use Rattle.le.proofs.Tests.{both}
 use Rattle.rules.specs.Masks.{bit}
 use Rattle.rules.specs.Ranges.{among, within}
 use Rattle.rules.proofs.Numbers.{by_bits, exactly, bin-by-size}
-use Rattle.std.specs.Prelude.{Ok}
+use Rattle.std.specs.Prelude.{Ok, Option, Some, None}
 use Rattle.moment.specs.declared.Moment.{Moment}
 use Rattle.moment.specs.declared.MomentDue.{MomentDue}
 use Rattle.radial.specs.declared.Radial.{Radial}
@@ -27,10 +27,7 @@ use Rattle.rules.proofs.Judged.{all_hold}
 use Rattle.gates.specs.Codes.{gates_in}
 use Rattle.gates.proofs.Codes.{codes-gates}
 use Rattle.gates.proofs.Exact.{lossless}
-use Rattle.moments.specs.declared.Found as moment
 use Rattle.moments.specs.Moments.{after, moments_from, moments_of, find_in, data_at}
-use Rattle.reading.specs.declared.Found.{Found}
-use Rattle.reading.specs.declared.Found.TheVariants as found
 use Rattle.reading.specs.declared.Stretch.{Stretch}
 use Rattle.reading.specs.Reading.{stretches, nth, bytes_of}
 use Rattle.reading.specs.Tiling.{due_with, Tiled, none, more, WholeRadial, AllWhole}
@@ -104,7 +101,7 @@ tile-le (more c r) = let l = tile-le r in omega arith
 
 module _ (f : List ℕ) (s : Stretch) (h : Placed f s) (t mask sizes : ℕ) where
   found-sound : (k at p a seen left : ℕ) → a ≡ s.start + at → Tiled f mask sizes seen left k a s.end
-      → find_in (bytes_of f s) t (moments_from k (bytes_of f s) at) ≡ moment.TheVariants.At p → Sound (bytes_of f s) p
+      → find_in (bytes_of f s) t (moments_from k (bytes_of f s) at) ≡ Some p → Sound (bytes_of f s) p
   unfolding find_in moments_from
   found-sound zero at p a seen left e none q = absurd (let z : ◌≡◌ {A = ℕ} 0 1 = cc in omega arith)
   found-sound (suc k) at p a seen left e (more c r) q =
@@ -119,37 +116,37 @@ module _ (f : List ℕ) (s : Stretch) (h : Placed f s) (t mask sizes : ℕ) wher
       (header-sound b at (due_with mask sizes seen left (suc k)) (ap (λ (x : Moment). moment_check x (due_with mask sizes seen left (suc k))) same ∙ c) (omega arith))
       (λ z. found-sound k (after b at) p (a + 32 + (moment_at f a).length) _ _ next r z)
     where
-      go : (z : Bool) → cond z (moment.TheVariants.At at) (find_in (bytes_of f s) t (moments_from k (bytes_of f s) (after (bytes_of f s) at))) ≡ moment.TheVariants.At p
+      go : (z : Bool) → cond z (Some at) (find_in (bytes_of f s) t (moments_from k (bytes_of f s) (after (bytes_of f s) at))) ≡ Some p
           → Sound (bytes_of f s) at
-          → (find_in (bytes_of f s) t (moments_from k (bytes_of f s) (after (bytes_of f s) at)) ≡ moment.TheVariants.At p → Sound (bytes_of f s) p)
+          → (find_in (bytes_of f s) t (moments_from k (bytes_of f s) (after (bytes_of f s) at)) ≡ Some p → Sound (bytes_of f s) p)
           → Sound (bytes_of f s) p
       go true q first rest = let z : at ≡ p = cc in subst (Sound (bytes_of f s)) z first
       go false q first rest = rest q
 
 -- ---- what a question finds
 
-in-stretch : (x s : Stretch) (v : moment.Found) (p : ℕ) → in_stretch x v ≡ At s p → (x ≡ s) × (v ≡ moment.TheVariants.At p)
+in-stretch : (x s : Stretch) (v : Option ℕ) (p : ℕ) → in_stretch x v ≡ At s p → (x ≡ s) × (v ≡ Some p)
 unfolding in_stretch
-in-stretch x s (moment.TheVariants.At q) p e = (cc, cc)
-in-stretch x s moment.TheVariants.Nowhere p e = absurd (let z : ◌≡◌ {A = ℕ} 0 1 = cc in omega arith)
+in-stretch x s (Some q) p e = (cc, cc)
+in-stretch x s None p e = absurd (let z : ◌≡◌ {A = ℕ} 0 1 = cc in omega arith)
 
 -- the radial is whole, and the moment is found in its stretch
 pub record Stands (f : List ℕ) (n t : ℕ) (s : Stretch) (p : ℕ) : Type 0 where
-  pub radial : nth (stretches f) n ≡ found.There s
-  pub moment : find_in (bytes_of f s) t (moments_of (bytes_of f s)) ≡ moment.TheVariants.At p
+  pub radial : nth (stretches f) n ≡ Some s
+  pub moment : find_in (bytes_of f s) t (moments_of (bytes_of f s)) ≡ Some p
 
 pub stands : (f : List ℕ) (n t : ℕ) (s : Stretch) (p : ℕ) → where_is f n t ≡ At s p → Stands f n t s p
 unfolding in_found
 stands f n t s p e = go (nth (stretches f) n) refl
   where
-    go : (v : Found) → nth (stretches f) n ≡ v → Stands f n t s p
-    go found.Nowhere q = absurd (let y : in_found f found.Nowhere t ≡ At s p = rw q at e in let z : ◌≡◌ {A = ℕ} 0 1 = cc in omega arith)
-    go (found.There x) q =
+    go : (v : Option Stretch) → nth (stretches f) n ≡ v → Stands f n t s p
+    go None q = absurd (let y : in_found f None t ≡ At s p = rw q at e in let z : ◌≡◌ {A = ℕ} 0 1 = cc in omega arith)
+    go (Some x) q =
         let y : moment_in f t x ≡ At s p = rw q at e in
         let i = in-stretch x s _ p y in
-        record { radial = q ∙ ap found.There i.0; moment = rw i.0 at i.1 }
+        record { radial = q ∙ ap Some i.0; moment = rw i.0 at i.1 }
 
-pub whole-sound : (f : List ℕ) (t : ℕ) (s : Stretch) (p : ℕ) → WholeRadial f s → Placed f s → find_in (bytes_of f s) t (moments_of (bytes_of f s)) ≡ moment.TheVariants.At p
+pub whole-sound : (f : List ℕ) (t : ℕ) (s : Stretch) (p : ℕ) → WholeRadial f s → Placed f s → find_in (bytes_of f s) t (moments_of (bytes_of f s)) ≡ Some p
     → Sound (bytes_of f s) p
 whole-sound f t s p w h m =
     found-sound f s h t w.mask w.sizes _ 64 p (s.start + 64) 0 _ refl w.moments

@@ -1,6 +1,6 @@
 -- What is answered of a radial, a moment, a gate and a row (document 01, "What reading tells"): 30 where there is no such
 -- whole radial, then 31 where it has no such moment, then 32 or 33.
-use Rattle.std.specs.Prelude.{ℕ, ◌%◌, cond, List, [], ◌≡◌, eqb, ltb, ℤ, length, get_or}
+use Rattle.std.specs.Prelude.{ℕ, ◌%◌, cond, List, [], ◌≡◌, eqb, ltb, ℤ, length, get_or, Option, Some, None}
 use Rattle.moment.specs.declared.Moment.{Moment}
 use Rattle.moment.specs.Moment.{moment_at}
 use Rattle.radial.specs.Radial.{radial_at}
@@ -11,8 +11,6 @@ use Rattle.gates.specs.Gates.{told_of, Values, values_of}
 use Rattle.gates.specs.Rows.{told_row, Rowed}
 use Rattle.gates.specs.Telling.{Telling, refused, answered}
 use Rattle.moments.specs.Moments.{data_at}
-use Rattle.reading.specs.declared.Found.{Found}
-use Rattle.reading.specs.declared.Found.TheVariants as found
 use Rattle.reading.specs.Reading.{stretches, nth, bytes_of}
 use Rattle.ask.specs.declared.answers.RadialAnswer.{RadialAnswer}
 use Rattle.ask.specs.declared.answers.MomentAnswer.{MomentAnswer}
@@ -22,9 +20,9 @@ use Rattle.ask.specs.declared.places.Where.{Where}
 use Rattle.ask.specs.declared.places.Where.TheVariants.{At, NoRadial, NoMoment}
 
 -- a radial: its record and its place; refused, zeros
-unfoldable pub radial_told : List ℕ → Found → RadialAnswer
-radial_told f found.Nowhere = record { number = 30; place = 0; header = radial_at [] 0 }
-radial_told f (found.There s) = record { number = 0; place = s.start; header = radial_at f s.start }
+unfoldable pub radial_told : List ℕ → Option Stretch → RadialAnswer
+radial_told f None = record { number = 30; place = 0; header = radial_at [] 0 }
+radial_told f (Some s) = record { number = 0; place = s.start; header = radial_at f s.start }
 
 abbrev pub radial_of_file : List ℕ → ℕ → RadialAnswer
 radial_of_file f n = radial_told f (nth (stretches f) n)

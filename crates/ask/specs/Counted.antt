@@ -1,5 +1,5 @@
 -- What a tally's counts are, by the answers of the radial and the gate question (document 01, "What reading tells"; document 02, #101 and #114).
-use Rattle.std.specs.Prelude.{ℕ, zero, suc, ◌+◌, ◌<◌, Bool, true, false, cond, List, [], ◌∷◌, ◌≡◌, eqb, get_or}
+use Rattle.std.specs.Prelude.{ℕ, zero, suc, ◌+◌, ◌<◌, Bool, true, false, cond, List, [], ◌∷◌, ◌≡◌, eqb, get_or, Some}
 use Rattle.moment.specs.Moment.{moment_at}
 use Rattle.gates.specs.Codes.{gates_in}
 use Rattle.gates.specs.Counting.{in_order, total_of}
@@ -7,7 +7,6 @@ use Rattle.gates.specs.Gates.{is_measurement, Values}
 use Rattle.gates.specs.Telling.{Telling, refused, answered}
 use Rattle.wedge.specs.declared.Wedge.{Wedge}
 use Rattle.wedge.specs.Wedge.{in_wedge}
-use Rattle.reading.specs.declared.Found.TheVariants.{There}
 use Rattle.reading.specs.declared.Stretch.{Stretch}
 use Rattle.reading.specs.Reading.{stretches, nth, bytes_of}
 use Rattle.ask.specs.declared.places.Where.{Where}
@@ -62,8 +61,8 @@ pub record CountedOnce (f : List ℕ) (n t : ℕ) (w : Wedge) (s : Stretch) (p :
 pub record Counted (f : List ℕ) (cut t : ℕ) (w : Wedge) : Type 0 where
   pub once : (n : ℕ) (s : Stretch) (p : ℕ) → where_is f n t ≡ At s p → in_wedge w (radial_of_file f n).header.azimuth ≡ true → CountedOnce f n t w s p
   pub elsewhere : (s : Stretch) → (s.cut ≡ cut → ⊥) → tally_one f cut t w s ≡ no_sums
-  pub outside : (n : ℕ) (s : Stretch) → nth (stretches f) n ≡ There s → in_wedge w (radial_of_file f n).header.azimuth ≡ false → tally_one f cut t w s ≡ no_sums
-  pub without : (n : ℕ) (s : Stretch) → nth (stretches f) n ≡ There s → where_is f n t ≡ NoMoment → tally_one f cut t w s ≡ no_sums
+  pub outside : (n : ℕ) (s : Stretch) → nth (stretches f) n ≡ Some s → in_wedge w (radial_of_file f n).header.azimuth ≡ false → tally_one f cut t w s ≡ no_sums
+  pub without : (n : ℕ) (s : Stretch) → nth (stretches f) n ≡ Some s → where_is f n t ≡ NoMoment → tally_one f cut t w s ≡ no_sums
   pub all-round : w.start ≡ w.end → (tally_of f cut t w).sums ≡ sums_over (with_no_wedge f cut t) (stretches f)
   pub radials : (tally_of f cut t w).sums.radials ≡ sum_over (λ s. (tally_one f cut t w s).radials) (stretches f)
   pub blanks : (tally_of f cut t w).sums.blanks ≡ sum_over (λ s. (tally_one f cut t w s).blanks) (stretches f)

@@ -1,10 +1,9 @@
 -- Growth (demand 3, on answers): what is answered of a file A and of any file A ++ C that begins with A.
-use Rattle.std.specs.Prelude.{ℕ, ◌≤◌, List, ◌++◌, ◌⊎◌, ◌≡◌, ℤ}
+use Rattle.std.specs.Prelude.{ℕ, ◌≤◌, List, ◌++◌, ◌⊎◌, ◌≡◌, ℤ, Some}
 use Rattle.gates.specs.declared.RowAnswer.{RowAnswer}
 use Rattle.gates.specs.Gates.{Values}
 use Rattle.gates.specs.Telling.{Telling, refused, answered}
 use Rattle.wedge.specs.declared.Wedge.{Wedge}
-use Rattle.reading.specs.declared.Found.TheVariants.{There}
 use Rattle.reading.specs.declared.Stretch.{Stretch}
 use Rattle.reading.specs.Reading.{stretches, nth}
 use Rattle.ask.specs.declared.tallies.Tally.{Tally}
@@ -43,7 +42,7 @@ pub record Kept (A C : List ℕ) (n : ℕ) : Type 0 where
       → (RowAsked (A ++ C) n t k h r k' h' → RowAsked A n t k h r k' h') × (RowAsked A n t k h r k' h' → RowAsked (A ++ C) n t k h r k' h')
 
 pub record AnswersGrow (A C : List ℕ) : Type 0 where
-  pub whole : (n : ℕ) (s : Stretch) → nth (stretches A) n ≡ There s → Kept A C n
+  pub whole : (n : ℕ) (s : Stretch) → nth (stretches A) n ≡ Some s → Kept A C n
   -- a gate's 30 may turn into an answer, 31 or 32; any other answer stays
   pub gate : (n t i : ℕ) → (gate_asked A n t i ≡ refused 30 0) ⊎ (gate_asked (A ++ C) n t i ≡ gate_asked A n t i)
   -- a tally's 61 stays; its 31 stays or turns into a tally; a tally keeps its wedge, and none of its counts falls

@@ -8,7 +8,7 @@ use crate::places::Where;
 use gates::{Coding, RowAnswer, Told};
 use moment::Moment;
 use radial::Radial;
-use reading::{Found, Stretch};
+use reading::Stretch;
 
 // 0, or the refusal's number; the radial's place, and its header.
 #[derive(Clone, Copy)]
@@ -36,12 +36,12 @@ pub fn radial(file: &[u8], sequence: usize) -> RadialAnswer
     ensures { result ≡ radial_of_file file.now sequence }
 {
     match reading::find(file, sequence) {
-        Found::There(s) => RadialAnswer {
+        Some(s) => RadialAnswer {
             number: 0,
             place: s.start,
             header: Radial::read(file, s.start),
         },
-        Found::Nowhere => RadialAnswer {
+        None => RadialAnswer {
             number: 30,
             place: 0,
             header: Radial::read(&file[..0], 0),
@@ -110,8 +110,8 @@ pub fn gate_at(file: &[u8], s: Stretch, t: u32, i: usize) -> GateAnswer
 {
     let b = reading::own(file, s);
     match moments::find(b, t) {
-        moments::Found::At(p) => gate_in(Moment::read(b, p), moments::data(b, p), i),
-        moments::Found::Nowhere => GateAnswer::Refused(31),
+        Some(p) => gate_in(Moment::read(b, p), moments::data(b, p), i),
+        None => GateAnswer::Refused(31),
     }
 }
 

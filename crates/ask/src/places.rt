@@ -3,7 +3,7 @@ ghost use Rattle.std.specs.Prelude.{◌≡◌};
 ghost use Rattle.moments.specs.Moments.{moments_of, find_in};
 ghost use Rattle.ask.specs.Places.{where_is, in_stretch};
 
-use reading::{Found, Stretch};
+use reading::Stretch;
 
 #[derive(Clone, Copy)]
 pub enum Where {
@@ -18,8 +18,8 @@ pub(crate) fn in_stretch(b: &[u8], s: Stretch, t: u32) -> Where
     ensures { result ≡ in_stretch s (find_in b.now t (moments_of b.now)) }
 {
     match moments::find(b, t) {
-        moments::Found::At(p) => Where::At(s, p),
-        moments::Found::Nowhere => Where::NoMoment,
+        Some(p) => Where::At(s, p),
+        None => Where::NoMoment,
     }
 }
 
@@ -28,7 +28,7 @@ pub fn find(file: &[u8], sequence: usize, t: u32) -> Where
     ensures { result ≡ where_is file.now sequence t }
 {
     match reading::find(file, sequence) {
-        Found::There(s) => in_stretch(reading::own(file, s), s, t),
-        Found::Nowhere => Where::NoRadial,
+        Some(s) => in_stretch(reading::own(file, s), s, t),
+        None => Where::NoRadial,
     }
 }

@@ -8,6 +8,7 @@ use mathlib.Core.Logic.{dite, ◌⊎◌, inl, inr, ◌↔◌}
 use mathlib.Core.Path.{◌≡◌, refl, sym, ap, ap₂, subst, ◌∙◌}
 use lib.ListN.{length, take, drop, get_or, length-take, length-drop}
 use borrow.Author.Tests.{lt-ltb, le-ltb}
+use Rattle.std.specs.Prelude.{Option, Some, None}
 use Rattle.le.specs.Le.{le, part, Bytes}
 use Rattle.le.proofs.Laws.{le-lt, le-own, le-part, length_part, part-here, part-take, part-drop}
 use Rattle.gates.specs.declared.Coding.{Coding}
@@ -17,11 +18,8 @@ use Rattle.gates.specs.Telling.{Telling, refused, answered}
 use Rattle.gates.proofs.Codes.{code_is}
 use Rattle.moment.specs.declared.Moment.{Moment}
 use Rattle.moment.specs.Moment.{moment_at, moment_of}
-use Rattle.moments.specs.declared.Found as moment
 use Rattle.moments.specs.Moments.{data_at, find_in, moments_of}
 use Rattle.moments.proofs.Laws.{all-within, found}
-use Rattle.reading.specs.declared.Found.{Found}
-use Rattle.reading.specs.declared.Found.TheVariants as found
 use Rattle.reading.specs.declared.Stretch.{Stretch}
 use Rattle.reading.specs.Reading.{stretches, nth, bytes_of}
 use Rattle.reading.proofs.Radials.{in-file}
@@ -42,38 +40,38 @@ use Rattle.citing.specs.Alone.{formula, by_formula, SameBytes, Stands, Alone, Be
 -- ---- the four ways in which a question can go
 
 pub data Ways (f : List ℕ) (n t i : ℕ) : Type 0 where
-  no-radial : nth (stretches f) n ≡ found.Nowhere → Ways f n t i
-  no-moment : (s : Stretch) → nth (stretches f) n ≡ found.There s → find_in (bytes_of f s) t (moments_of (bytes_of f s)) ≡ moment.TheVariants.Nowhere → Ways f n t i
-  no-gate : (s : Stretch) (p : ℕ) → nth (stretches f) n ≡ found.There s → find_in (bytes_of f s) t (moments_of (bytes_of f s)) ≡ moment.TheVariants.At p → gates_at (bytes_of f s) p ≤ i → Ways f n t i
-  gate : (s : Stretch) (p : ℕ) → nth (stretches f) n ≡ found.There s → find_in (bytes_of f s) t (moments_of (bytes_of f s)) ≡ moment.TheVariants.At p → i < gates_at (bytes_of f s) p → Ways f n t i
+  no-radial : nth (stretches f) n ≡ None → Ways f n t i
+  no-moment : (s : Stretch) → nth (stretches f) n ≡ Some s → find_in (bytes_of f s) t (moments_of (bytes_of f s)) ≡ None → Ways f n t i
+  no-gate : (s : Stretch) (p : ℕ) → nth (stretches f) n ≡ Some s → find_in (bytes_of f s) t (moments_of (bytes_of f s)) ≡ Some p → gates_at (bytes_of f s) p ≤ i → Ways f n t i
+  gate : (s : Stretch) (p : ℕ) → nth (stretches f) n ≡ Some s → find_in (bytes_of f s) t (moments_of (bytes_of f s)) ≡ Some p → i < gates_at (bytes_of f s) p → Ways f n t i
 
 pub ways : (f : List ℕ) (n t i : ℕ) → Ways f n t i
 ways f n t i = in-radial (nth (stretches f) n) refl
   where
-    in-moment : (s : Stretch) (v : moment.Found) → nth (stretches f) n ≡ found.There s → find_in (bytes_of f s) t (moments_of (bytes_of f s)) ≡ v → Ways f n t i
-    in-moment s moment.TheVariants.Nowhere r m = no-moment s r m
-    in-moment s (moment.TheVariants.At p) r m = dite (dec_lt i (gates_at (bytes_of f s) p)) (λ h. gate s p r m h) (λ h. no-gate s p r m (omega arith))
+    in-moment : (s : Stretch) (v : Option ℕ) → nth (stretches f) n ≡ Some s → find_in (bytes_of f s) t (moments_of (bytes_of f s)) ≡ v → Ways f n t i
+    in-moment s None r m = no-moment s r m
+    in-moment s (Some p) r m = dite (dec_lt i (gates_at (bytes_of f s) p)) (λ h. gate s p r m h) (λ h. no-gate s p r m (omega arith))
 
-    in-radial : (v : Found) → nth (stretches f) n ≡ v → Ways f n t i
-    in-radial found.Nowhere r = no-radial r
-    in-radial (found.There s) r = in-moment s (find_in (bytes_of f s) t (moments_of (bytes_of f s))) r refl
+    in-radial : (v : Option Stretch) → nth (stretches f) n ≡ v → Ways f n t i
+    in-radial None r = no-radial r
+    in-radial (Some s) r = in-moment s (find_in (bytes_of f s) t (moments_of (bytes_of f s))) r refl
 
 -- what is cited on each
 module _ (f : List ℕ) (n t i : ℕ) where
-  pub cites-count : nth (stretches f) n ≡ found.Nowhere → why_gate f n t i ≡ why.NoRadial (length (stretches f))
+  pub cites-count : nth (stretches f) n ≡ None → why_gate f n t i ≡ why.NoRadial (length (stretches f))
   unfolding in_radial
   cites-count r = rw r
 
-  pub cites-place : (s : Stretch) → nth (stretches f) n ≡ found.There s → find_in (bytes_of f s) t (moments_of (bytes_of f s)) ≡ moment.TheVariants.Nowhere → why_gate f n t i ≡ why.NoMoment s.start
+  pub cites-place : (s : Stretch) → nth (stretches f) n ≡ Some s → find_in (bytes_of f s) t (moments_of (bytes_of f s)) ≡ None → why_gate f n t i ≡ why.NoMoment s.start
   unfolding in_radial in_moment
   cites-place s r m = rw (r, m)
 
-  pub cites-gates : (s : Stretch) (p : ℕ) → nth (stretches f) n ≡ found.There s → find_in (bytes_of f s) t (moments_of (bytes_of f s)) ≡ moment.TheVariants.At p → gates_at (bytes_of f s) p ≤ i
+  pub cites-gates : (s : Stretch) (p : ℕ) → nth (stretches f) n ≡ Some s → find_in (bytes_of f s) t (moments_of (bytes_of f s)) ≡ Some p → gates_at (bytes_of f s) p ≤ i
       → why_gate f n t i ≡ why.NoGate (gates_at (bytes_of f s) p)
   unfolding in_radial in_moment
   cites-gates s p r m g = rw (r, m, le-ltb i (gates_at (bytes_of f s) p) g)
 
-  pub cites-fields : (s : Stretch) (p : ℕ) → nth (stretches f) n ≡ found.There s → find_in (bytes_of f s) t (moments_of (bytes_of f s)) ≡ moment.TheVariants.At p → i < gates_at (bytes_of f s) p
+  pub cites-fields : (s : Stretch) (p : ℕ) → nth (stretches f) n ≡ Some s → find_in (bytes_of f s) t (moments_of (bytes_of f s)) ≡ Some p → i < gates_at (bytes_of f s) p
       → why_gate f n t i ≡ why.Answered (cited_at f (s.start + p) i)
   unfolding in_radial in_moment
   cites-fields s p r m g = rw (r, m, lt-ltb i (gates_at (bytes_of f s) p) g)
@@ -82,8 +80,8 @@ module _ (f : List ℕ) (n t i : ℕ) where
 record Cites (f : List ℕ) (n t i : ℕ) (c : GateCited) : Type 0 where
   stretch : Stretch
   place : ℕ
-  radial : nth (stretches f) n ≡ found.There stretch
-  moment : find_in (bytes_of f stretch) t (moments_of (bytes_of f stretch)) ≡ moment.TheVariants.At place
+  radial : nth (stretches f) n ≡ Some stretch
+  moment : find_in (bytes_of f stretch) t (moments_of (bytes_of f stretch)) ≡ Some place
   gate : i < gates_at (bytes_of f stretch) place
   is : c ≡ cited_at f (stretch.start + place) i
 
@@ -97,7 +95,7 @@ cites f n t i c e = go (ways f n t i)
     go (gate s p r m g) = let q = cites-fields f n t i s p r m g in record { stretch = s; place = p; radial = r; moment = m; gate = g; is = cc }
 
 -- the question finds the same moment
-where-is : (f : List ℕ) (n t : ℕ) (s : Stretch) (p : ℕ) → nth (stretches f) n ≡ found.There s → find_in (bytes_of f s) t (moments_of (bytes_of f s)) ≡ moment.TheVariants.At p → where_is f n t ≡ At s p
+where-is : (f : List ℕ) (n t : ℕ) (s : Stretch) (p : ℕ) → nth (stretches f) n ≡ Some s → find_in (bytes_of f s) t (moments_of (bytes_of f s)) ≡ Some p → where_is f n t ≡ At s p
 unfolding in_found places.in_stretch
 where-is f n t s p r m = rw (r, m)
 
@@ -114,8 +112,8 @@ room l at k h e = omega (arith, simp (length-take, length-drop) at e)
 
 -- ---- the moment in the file
 
-module _ (f : List ℕ) (n t i : ℕ) (s : Stretch) (p : ℕ) (r : nth (stretches f) n ≡ found.There s)
-    (m : find_in (bytes_of f s) t (moments_of (bytes_of f s)) ≡ moment.TheVariants.At p) (g : i < gates_at (bytes_of f s) p) where
+module _ (f : List ℕ) (n t i : ℕ) (s : Stretch) (p : ℕ) (r : nth (stretches f) n ≡ Some s)
+    (m : find_in (bytes_of f s) t (moments_of (bytes_of f s)) ≡ Some p) (g : i < gates_at (bytes_of f s) p) where
   abbrev b : List ℕ
   b = bytes_of f s
 
@@ -278,15 +276,15 @@ alone f n t i c e =
 -- ---- a refused question
 
 -- no such radial, and no such moment
-told-30 : (f : List ℕ) (n t i : ℕ) → nth (stretches f) n ≡ found.Nowhere → gate_asked f n t i ≡ refused 30 0
+told-30 : (f : List ℕ) (n t i : ℕ) → nth (stretches f) n ≡ None → gate_asked f n t i ≡ refused 30 0
 unfolding in_found gate_told
 told-30 f n t i r = rw r
 
-told-31 : (f : List ℕ) (n t i : ℕ) (s : Stretch) → nth (stretches f) n ≡ found.There s → find_in (bytes_of f s) t (moments_of (bytes_of f s)) ≡ moment.TheVariants.Nowhere → gate_asked f n t i ≡ refused 31 0
+told-31 : (f : List ℕ) (n t i : ℕ) (s : Stretch) → nth (stretches f) n ≡ Some s → find_in (bytes_of f s) t (moments_of (bytes_of f s)) ≡ None → gate_asked f n t i ≡ refused 31 0
 unfolding in_found places.in_stretch gate_told
 told-31 f n t i s r m = rw (r, m)
 
-radial-there : (f : List ℕ) (n : ℕ) (s : Stretch) → nth (stretches f) n ≡ found.There s → ((radial_of_file f n).number ≡ 0) × (s.start ≡ (radial_of_file f n).place)
+radial-there : (f : List ℕ) (n : ℕ) (s : Stretch) → nth (stretches f) n ≡ Some s → ((radial_of_file f n).number ≡ 0) × (s.start ≡ (radial_of_file f n).place)
 unfolding radial_told
 radial-there f n s r = rw r (refl, refl)
 

@@ -8,7 +8,7 @@ use mathlib.Core.Path.{◌≡◌, refl, sym, ap, ap₂, subst, subst⁻¹, ◌�
 use lib.ListN.{length, take, length-append}
 use Rattle.le.specs.Le.{Bytes}
 use Rattle.rules.specs.Check.{Check}
-use Rattle.std.specs.Prelude.{Ok, Err}
+use Rattle.std.specs.Prelude.{Ok, Err, Some}
 use Rattle.rules.specs.declared.check.Clause.{Clause}
 use Rattle.rules.specs.Check.{Hold, First, verdict}
 use Rattle.rules.proofs.Judged.{first-decides, fine-if}
@@ -16,7 +16,6 @@ use Rattle.walk.specs.declared.due.Due.{Due}
 use Rattle.walk.specs.declared.due.Due.TheVariants as due
 use Rattle.walk.specs.declared.due.Walk.{Walk}
 use Rattle.walk.specs.Due.{is_end}
-use Rattle.reading.specs.declared.Found.TheVariants.{There}
 use Rattle.reading.specs.declared.Stretch.{Stretch}
 use Rattle.reading.specs.Reading.{stop, stretches, nth, told}
 use Rattle.reading.proofs.Counts.{counted-all}
@@ -51,7 +50,7 @@ complete-only (why.Broken c) e = absurd (let z : ◌≡◌ {A = ℕ} 2 0 = cc in
 complete-only (why.Hopeless b) e = absurd (let z : ◌≡◌ {A = ℕ} 2 0 = cc in omega arith)
 
 -- the last of some stretches
-pub last-is : (l : List Stretch) (s : Stretch) → nth (l ++ (s ∷ [])) (length (l ++ (s ∷ []))) ≡ There s
+pub last-is : (l : List Stretch) (s : Stretch) → nth (l ++ (s ∷ [])) (length (l ++ (s ∷ []))) ≡ Some s
 unfolding nth
 last-is [] s = refl
 last-is (x ∷ []) s = refl
@@ -92,7 +91,7 @@ by-trailing v rest some b at radials =
     let x = closed f b in
     let all : volume_stretches v ≡ x.before ++ (x.last ∷ []) = sym radials ∙ x.all in
     let count : w.count.whole ≡ length (volume_stretches v) = counted-all f ∙ ap length radials in
-    let its : nth (volume_stretches v) (length (volume_stretches v)) ≡ There x.last = ap (λ (ss : List Stretch). nth ss (length ss)) all ∙ last-is x.before x.last in
+    let its : nth (volume_stretches v) (length (volume_stretches v)) ≡ Some x.last = ap (λ (ss : List Stretch). nth ss (length ss)) all ∙ last-is x.before x.last in
     let is : block_due w.due f w ≡ block due.Radial (length (volume_stretches v)) 0 x.last.start = ap (λ (d : Due). block_due d f w) b ∙ ap₂ (λ (n p : ℕ). block due.Radial n 0 p) count (sym x.start) in
     subst⁻¹ (Grounds (volume v) rest) (why-over f w (ap is_end b) (omega arith) ∙ (λ j. why.Broken (cited_of f (sym x.end j) (is j) trailing_clause)))
     (trailing v rest x.last some its (x.end ∙ at))

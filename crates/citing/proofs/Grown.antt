@@ -9,7 +9,7 @@ use lib.ListN.{length, length-append}
 use Rattle.le.specs.Le.{le}
 use Rattle.le.proofs.Laws.{le-own, part_in}
 use Rattle.rules.specs.Check.{Check}
-use Rattle.std.specs.Prelude.{Ok, Err}
+use Rattle.std.specs.Prelude.{Ok, Err, Option, Some, None}
 use Rattle.rules.specs.declared.check.Clause.{Clause}
 use Rattle.rules.specs.Check.{Rule, First, here, behind, verdict}
 use Rattle.rules.proofs.Judged.{decided-first}
@@ -25,9 +25,7 @@ use Rattle.walk.specs.declared.due.Walk.{Walk}
 use Rattle.walk.specs.Due.{at_start, is_end, moment_due, radial_due, size_at, size_of}
 use Rattle.walk.specs.After.{after_data}
 use Rattle.gates.specs.Codes.{width_of}
-use Rattle.moments.specs.declared.Found as moment
 use Rattle.moments.specs.Moments.{find_in, moments_of}
-use Rattle.reading.specs.declared.Found.TheVariants as found
 use Rattle.reading.specs.declared.Stretch.{Stretch}
 use Rattle.reading.specs.declared.step.Step.TheVariants.{Took, Refused}
 use Rattle.reading.specs.Exactly.{rules_of}
@@ -207,37 +205,37 @@ cited-in A C m i h k =
       code = (ap (λ (x : ℕ). field_at (A ++ C) (m + 32 + width_of x * i) (width_of x)) b ∙ field_in A C (m + 32 + width_at A m * i) (width_at A m) k) j;
     }
 
-module _ (A C : List ℕ) (some : 0 < length C) (n : ℕ) (s : Stretch) (here : nth (stretches A) n ≡ found.There s) (t i : ℕ) where
-  there : nth (stretches (A ++ C)) n ≡ found.There s
+module _ (A C : List ℕ) (some : 0 < length C) (n : ℕ) (s : Stretch) (here : nth (stretches A) n ≡ Some s) (t i : ℕ) where
+  there : nth (stretches (A ++ C)) n ≡ Some s
   there = let g = grows A C some in ap (λ (l : List Stretch). nth l n) g.radials ∙ nth-kept (stretches A) g.later n s here
 
   bytes : bytes_of (A ++ C) s ≡ bytes_of A s
   bytes = nth_of (Same A (A ++ C)) (λ x. bytes_of (A ++ C) x ≡ bytes_of A x) (λ x l h. h) (stretches A) n s (grows A C some).bytes here
 
-  found-same : (v : moment.Found) → find_in (bytes_of A s) t (moments_of (bytes_of A s)) ≡ v → find_in (bytes_of (A ++ C) s) t (moments_of (bytes_of (A ++ C) s)) ≡ v
+  found-same : (v : Option ℕ) → find_in (bytes_of A s) t (moments_of (bytes_of A s)) ≡ v → find_in (bytes_of (A ++ C) s) t (moments_of (bytes_of (A ++ C) s)) ≡ v
   found-same v e = ap (λ (b : List ℕ). find_in b t (moments_of b)) bytes ∙ e
 
   gates-same : (p : ℕ) → gates_at (bytes_of (A ++ C) s) p ≡ gates_at (bytes_of A s) p
   gates-same p = ap (λ (b : List ℕ). gates_at b p) bytes
 
-  one : (x : Stretch) → nth (stretches A) n ≡ found.There x → x ≡ s
+  one : (x : Stretch) → nth (stretches A) n ≡ Some x → x ≡ s
   one x e = cc
 
   whole : Ways A n t i → why_gate (A ++ C) n t i ≡ why_gate A n t i
   whole (no-radial r) = absurd (let z : ◌≡◌ {A = ℕ} 0 1 = cc in omega arith)
   whole (no-moment x r m) =
       let e = one x r in
-      let q : find_in (bytes_of A s) t (moments_of (bytes_of A s)) ≡ moment.TheVariants.Nowhere = subst (λ (y : Stretch). find_in (bytes_of A y) t (moments_of (bytes_of A y)) ≡ moment.TheVariants.Nowhere) e m in
+      let q : find_in (bytes_of A s) t (moments_of (bytes_of A s)) ≡ None = subst (λ (y : Stretch). find_in (bytes_of A y) t (moments_of (bytes_of A y)) ≡ None) e m in
       cites-place (A ++ C) n t i s there (found-same _ q) ∙ sym (cites-place A n t i s here q)
   whole (no-gate x p r m g) =
       let e = one x r in
-      let q : find_in (bytes_of A s) t (moments_of (bytes_of A s)) ≡ moment.TheVariants.At p = subst (λ (y : Stretch). find_in (bytes_of A y) t (moments_of (bytes_of A y)) ≡ moment.TheVariants.At p) e m in
+      let q : find_in (bytes_of A s) t (moments_of (bytes_of A s)) ≡ Some p = subst (λ (y : Stretch). find_in (bytes_of A y) t (moments_of (bytes_of A y)) ≡ Some p) e m in
       let h : gates_at (bytes_of A s) p ≤ i = subst (λ (y : Stretch). gates_at (bytes_of A y) p ≤ i) e g in
       let k = gates-same p in
       cites-gates (A ++ C) n t i s p there (found-same _ q) (omega arith) ∙ ap gate.NoGate k ∙ sym (cites-gates A n t i s p here q h)
   whole (gate x p r m g) =
       let e = one x r in
-      let q : find_in (bytes_of A s) t (moments_of (bytes_of A s)) ≡ moment.TheVariants.At p = subst (λ (y : Stretch). find_in (bytes_of A y) t (moments_of (bytes_of A y)) ≡ moment.TheVariants.At p) e m in
+      let q : find_in (bytes_of A s) t (moments_of (bytes_of A s)) ≡ Some p = subst (λ (y : Stretch). find_in (bytes_of A y) t (moments_of (bytes_of A y)) ≡ Some p) e m in
       let h : i < gates_at (bytes_of A s) p = subst (λ (y : Stretch). i < gates_at (bytes_of A y) p) e g in
       let k = gates-same p in
       cites-fields (A ++ C) n t i s p there (found-same _ q) (omega arith)

@@ -7,7 +7,7 @@ use mathlib.Core.List.{List, [], ◌∷◌}
 use mathlib.Core.Logic.{◌⊎◌, inl, inr}
 use lib.ListN.{length}
 use borrow.Author.Tests.{le-leb, lt-leb, lt-ltb, le-ltb}
-use Rattle.std.specs.Prelude.{Err}
+use Rattle.std.specs.Prelude.{Err, Some}
 use Rattle.rules.specs.declared.check.Clause.{Clause}
 use Rattle.rules.specs.Check.{Rule, First, here, behind, verdict}
 use Rattle.rules.proofs.Judged.{decided-first, all_hold}
@@ -17,7 +17,6 @@ use Rattle.walk.specs.declared.due.Due.{Due}
 use Rattle.walk.specs.declared.due.Due.TheVariants as due
 use Rattle.walk.specs.declared.due.Walk.{Walk}
 use Rattle.walk.specs.Due.{is_end, size_of}
-use Rattle.reading.specs.declared.Found.TheVariants.{There}
 use Rattle.reading.specs.declared.Stretch.{Stretch}
 use Rattle.reading.specs.Exactly.{rules_of}
 use Rattle.reading.specs.Reading.{stop, stretches, nth}
@@ -106,7 +105,7 @@ clause-sized f w c e = first-sized (decided-first (rules_of w.due f w) c e) (rul
 
 -- ---- no file has more than 65,536 whole radials (number 12)
 
-last-nth : (l : List Stretch) → 0 < length l → (s : Stretch) × (nth l (length l) ≡ There s)
+last-nth : (l : List Stretch) → 0 < length l → (s : Stretch) × (nth l (length l) ≡ Some s)
 unfolding nth
 last-nth [] h = absurd (omega arith)
 last-nth (s ∷ []) h = (s, refl)

@@ -1,6 +1,6 @@
 -- Why a gate's answer is what it is (document 02, #104): the places in the file of its type, scale, offset, bin length and code, and
 -- what stands there; of a refused question, which it is and what there is instead.
-use Rattle.std.specs.Prelude.{ℕ, ◌+◌, ◌*◌, ◌%◌, cond, List, ltb, length}
+use Rattle.std.specs.Prelude.{ℕ, ◌+◌, ◌*◌, ◌%◌, cond, List, ltb, length, Option, Some, None}
 use Rattle.le.specs.Le.{le}
 use Rattle.gates.specs.declared.Coding.{Coding}
 use Rattle.gates.specs.declared.Told.{Told}
@@ -8,10 +8,7 @@ use Rattle.gates.specs.Codes.{codes_of, width_of}
 use Rattle.gates.specs.Gates.{told_of}
 use Rattle.gates.specs.Telling.{Telling, refused, answered}
 use Rattle.moment.specs.Moment.{moment_at, moment_size}
-use Rattle.moments.specs.declared.Found as moment
 use Rattle.moments.specs.Moments.{data_at, moments_of, find_in}
-use Rattle.reading.specs.declared.Found.{Found}
-use Rattle.reading.specs.declared.Found.TheVariants as found
 use Rattle.reading.specs.declared.Stretch.{Stretch}
 use Rattle.reading.specs.Reading.{stretches, nth, bytes_of}
 use Rattle.citing.specs.declared.answers.GateCited.{GateCited}
@@ -39,18 +36,18 @@ abbrev pub gates_at : List ℕ → ℕ → ℕ
 gates_at b p = length (codes_of (moment_at b p).bin_length (data_at b p))
 
 -- in the radial of a stretch: 31 with the radial's place, or 32 with the number of gates, or the gate's fields
-unfoldable pub in_moment : List ℕ → Stretch → ℕ → moment.Found → WhyGate
-in_moment f s i moment.TheVariants.Nowhere = NoMoment s.start
-in_moment f s i (moment.TheVariants.At p) =
+unfoldable pub in_moment : List ℕ → Stretch → ℕ → Option ℕ → WhyGate
+in_moment f s i None = NoMoment s.start
+in_moment f s i (Some p) =
     cond (ltb i (gates_at (bytes_of f s) p)) (Answered (cited_at f (s.start + p) i)) (NoGate (gates_at (bytes_of f s) p))
 
 abbrev pub in_stretch : List ℕ → ℕ → ℕ → Stretch → WhyGate
 in_stretch f t i s = in_moment f s i (find_in (bytes_of f s) t (moments_of (bytes_of f s)))
 
 -- of the whole radial with a sequence number: 30 with the number of whole radials
-unfoldable pub in_radial : List ℕ → ℕ → ℕ → Found → WhyGate
-in_radial f t i found.Nowhere = NoRadial (length (stretches f))
-in_radial f t i (found.There s) = in_stretch f t i s
+unfoldable pub in_radial : List ℕ → ℕ → ℕ → Option Stretch → WhyGate
+in_radial f t i None = NoRadial (length (stretches f))
+in_radial f t i (Some s) = in_stretch f t i s
 
 -- why gate i of the moment of type t in radial n is answered as it is
 abbrev pub why_gate : List ℕ → ℕ → ℕ → ℕ → WhyGate

@@ -1,10 +1,9 @@
 -- What is cited of a file, by the structure (document 02, #104): of its accepted blocks each keeps its rules where it stands; the block
 -- behind them is cited, by its place among them, with its first broken clause, before which every field of it keeps its rule.
-use Rattle.std.specs.Prelude.{ℕ, suc, ◌+◌, ◌-◌, ◌<◌, ◌≤◌, List, [], ◌++◌, ◌≡◌, length, take}
+use Rattle.std.specs.Prelude.{ℕ, suc, ◌+◌, ◌-◌, ◌<◌, ◌≤◌, List, [], ◌++◌, ◌≡◌, length, take, Some}
 use Rattle.rules.specs.declared.check.Clause.{Clause}
 use Rattle.rules.specs.Check.{Hold, First}
 use Rattle.walk.specs.declared.due.Due.TheVariants as due
-use Rattle.reading.specs.declared.Found.TheVariants.{There}
 use Rattle.reading.specs.declared.Stretch.{Stretch}
 use Rattle.reading.specs.Reading.{nth, told}
 use Rattle.volume.specs.Volume.{Volume, bytes_of_volume}
@@ -35,7 +34,7 @@ pub data Grounds : Accepted → List ℕ → Why → Type 0 where
   complete : (v : Volume) → Grounds (volume v) [] why.Complete
   missing : (a : Accepted) (rest : List ℕ) → length rest < due_size a → Grounds a rest (why.Open (due_size a - length rest))
   -- bytes behind a volume: its last radial, which ends where they begin, and its state
-  trailing : (v : Volume) (rest : List ℕ) (s : Stretch) → 0 < length rest → nth (volume_stretches v) (length (volume_stretches v)) ≡ There s → s.end ≡ length (bytes_of_volume v)
+  trailing : (v : Volume) (rest : List ℕ) (s : Stretch) → 0 < length rest → nth (volume_stretches v) (length (volume_stretches v)) ≡ Some s → s.end ≡ length (bytes_of_volume v)
       → Grounds (volume v) rest (why.Broken (cited_of (bytes_of_volume v ++ rest) s.end (block due.Radial (length (volume_stretches v)) 0 s.start) trailing_clause))
   -- the due block is there: its first broken clause
   clause : (a : Accepted) (rest : List ℕ) (c : Clause) → due_size a ≤ length rest → First (due_rules a rest) c

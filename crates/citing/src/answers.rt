@@ -9,7 +9,7 @@ ghost use Rattle.citing.specs.Answers.{cited_at, in_stretch, why_gate, answer_of
 use crate::{Field, four, one, two};
 use gates::{Coding, Told};
 use moment::Moment;
-use reading::{Found, Stretch};
+use reading::Stretch;
 
 // The fields that give a gate's answer.
 #[derive(Clone, Copy)]
@@ -65,14 +65,14 @@ fn in_stretch(file: &[u8], t: u32, i: usize, s: Stretch) -> WhyGate
     let start = s.start;
     let b = reading::own(file, s);
     match moments::find(b, t) {
-        moments::Found::At(p) => {
+        Some(p) => {
             let gates = gates::gates_in(moments::data(b, p), Moment::read(b, p).bin_length);
             if i < gates {
                 return WhyGate::Answered(cited(file, start + p, i));
             }
             WhyGate::NoGate(gates)
         }
-        moments::Found::Nowhere => WhyGate::NoMoment(start),
+        None => WhyGate::NoMoment(start),
     }
 }
 
@@ -81,8 +81,8 @@ pub fn gate(file: &[u8], sequence: usize, t: u32, i: usize) -> WhyGate
     ensures { result ≡ why_gate file.now sequence t i }
 {
     match reading::find(file, sequence) {
-        Found::There(s) => in_stretch(file, t, i, s),
-        Found::Nowhere => WhyGate::NoRadial(reading::read(file).radials),
+        Some(s) => in_stretch(file, t, i, s),
+        None => WhyGate::NoRadial(reading::read(file).radials),
     }
 }
 

@@ -12,7 +12,7 @@ use generic::Generic;
 use moment::Moment;
 use radial::Radial;
 use reading::Onward;
-use rules::check::{Check, Clause};
+use rules::check::Clause;
 use site::Site;
 use task::Task;
 use walk::due::{Due, Walk, is_end, size_at};
@@ -65,7 +65,7 @@ fn stop(file: &[u8]) -> Walk
 }
 
 // What the rules of the due block say.
-fn check_at(file: &[u8], w: Walk) -> Check
+fn check_at(file: &[u8], w: Walk) -> Result<(), Clause>
     ensures { result ≡ verdict (rules_of w.due file.now w) }
 {
     let at = w.at;
@@ -77,8 +77,8 @@ fn check_at(file: &[u8], w: Walk) -> Check
         Due::Cut => Cut::read(file, at).check(),
         Due::Radial => Radial::read(file, at).check(w.radial_due()),
         Due::Moment => Moment::read(file, at).check(w.moment_due()),
-        Due::Data => Check::Fine,
-        Due::Nothing => Check::Fine,
+        Due::Data => Ok(()),
+        Due::Nothing => Ok(()),
     }
 }
 
@@ -171,8 +171,8 @@ pub fn file(file: &[u8]) -> Why
         return Why::Open(size - here);
     }
     match check_at(file, w) {
-        Check::Fine => Why::Hopeless(block),
-        Check::Broken(clause) => Why::Broken(Cited {
+        Ok(()) => Why::Hopeless(block),
+        Err(clause) => Why::Broken(Cited {
             place: at + (clause.place as usize),
             clause,
             block,

@@ -5,9 +5,8 @@ use mathlib.Core.Logic.{◌⊎◌, inl, inr}
 use mathlib.Core.Path.{◌≡◌, refl, sym, ap, ◌∙◌}
 use lib.IntN.{ℤ}
 use lib.ListN.{length}
+use Rattle.std.specs.Prelude.{Option, Some, None}
 use Rattle.gates.specs.Telling.{refused}
-use Rattle.reading.specs.declared.Found.{Found}
-use Rattle.reading.specs.declared.Found.TheVariants as found
 use Rattle.reading.specs.declared.Stretch.{Stretch}
 use Rattle.reading.specs.Reading.{stretches, nth}
 use Rattle.ask.specs.declared.answers.MomentAnswer.{MomentAnswer}
@@ -31,7 +30,7 @@ module _ (k : List ℕ) (h : List ℤ) where
       rw (e, d)
 
 module _ (A C : List ℕ) (some : 0 < length C) where
-  module _ (n : ℕ) (s : Stretch) (here : nth (stretches A) n ≡ found.There s) (t : ℕ) (k : List ℕ) (h : List ℤ) where
+  module _ (n : ℕ) (s : Stretch) (here : nth (stretches A) n ≡ Some s) (t : ℕ) (k : List ℕ) (h : List ℤ) where
     kept : Kept A C n
     kept = (answers-grow A C some).whole n s here
 
@@ -41,13 +40,13 @@ module _ (A C : List ℕ) (some : 0 < length C) where
         ap (λ (w : Where). check_told (A ++ C) w k h) place
         ∙ by-answers k h (A ++ C) A (where_is A n t) (sym (ap (moment_told (A ++ C)) place) ∙ kept.moment t) (sym (ap (data_told (A ++ C)) place) ∙ kept.bytes t)
 
-  nowhere : (n t : ℕ) (k : List ℕ) (h : List ℤ) → nth (stretches A) n ≡ found.Nowhere → check_asked A n t k h ≡ refused 30 0
+  nowhere : (n t : ℕ) (k : List ℕ) (h : List ℤ) → nth (stretches A) n ≡ None → check_asked A n t k h ≡ refused 30 0
   unfolding in_found check_told
   nowhere n t k h e = rw e
 
-  any : (n t : ℕ) (k : List ℕ) (h : List ℤ) (v : Found) → nth (stretches A) n ≡ v → (check_asked A n t k h ≡ refused 30 0) ⊎ (check_asked (A ++ C) n t k h ≡ check_asked A n t k h)
-  any n t k h found.Nowhere e = inl (nowhere n t k h e)
-  any n t k h (found.There s) e = inr (whole n s e t k h)
+  any : (n t : ℕ) (k : List ℕ) (h : List ℤ) (v : Option Stretch) → nth (stretches A) n ≡ v → (check_asked A n t k h ≡ refused 30 0) ⊎ (check_asked (A ++ C) n t k h ≡ check_asked A n t k h)
+  any n t k h None e = inl (nowhere n t k h e)
+  any n t k h (Some s) e = inr (whole n s e t k h)
 
   pub checks-grow : ChecksGrow A C
   checks-grow = record { whole = whole; any = λ n t k h. any n t k h (nth (stretches A) n) refl }

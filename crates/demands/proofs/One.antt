@@ -9,6 +9,7 @@ use borrow.Author.Tests.{le-leb, le-ltb, lt-leb, lt-ltb, ltb-true, leb-false}
 use lib.Dec.{eqb, leb, ltb}
 use lib.IntN.{ℤ}
 use lib.ListN.{length}
+use Rattle.std.specs.Prelude.{Option, Some, None}
 use Rattle.le.specs.Le.{stored, Bytes}
 use Rattle.le.proofs.Laws.{stored_no}
 use Rattle.le.proofs.Tests.{both}
@@ -25,8 +26,6 @@ use Rattle.moment.specs.Moment.{moment_at}
 use Rattle.moments.specs.Moments.{data_at}
 use Rattle.walk.specs.declared.due.Walk.{Walk}
 use Rattle.walk.specs.Due.{at_start, is_end}
-use Rattle.reading.specs.declared.Found.{Found}
-use Rattle.reading.specs.declared.Found.TheVariants as found
 use Rattle.reading.specs.declared.Reading.{Reading}
 use Rattle.reading.specs.declared.Stretch.{Stretch}
 use Rattle.reading.specs.declared.Verdict.{Verdict}
@@ -286,9 +285,9 @@ mended-kept : (f before after : List ℕ) (n : ℕ) → mend.Mends f before (men
 unfolding mend.answer_by mend.room_by
 mended-kept f before after n r = go (last_kept f) refl
   where
-    go : (w : Found) → last_kept f ≡ w → after ≡ before
-    go found.Nowhere e = rw e at r.room
-    go (found.There s) e = by (leb (length (mend.mended f s)) (length before)) refl
+    go : (w : Option Stretch) → last_kept f ≡ w → after ≡ before
+    go None e = rw e at r.room
+    go (Some s) e = by (leb (length (mend.mended f s)) (length before)) refl
       where
         by : (t : Bool) → leb (length (mend.mended f s)) (length before) ≡ t → after ≡ before
         by true q =
@@ -300,13 +299,13 @@ picked-kept : (f : List ℕ) (wanted : ℕ) (before after : List ℕ) (n p : ℕ
 unfolding pick.answer_by pick.room_by
 picked-kept f wanted before after n p r = go (complete f) (pick.empty_in wanted f) (leb (length (pick.picked wanted f)) (length before)) refl refl refl
   where
-    go : (c : Bool) (w : Found) (t : Bool) → complete f ≡ c → pick.empty_in wanted f ≡ w → leb (length (pick.picked wanted f)) (length before) ≡ t → after ≡ before
+    go : (c : Bool) (w : Option Stretch) (t : Bool) → complete f ≡ c → pick.empty_in wanted f ≡ w → leb (length (pick.picked wanted f)) (length before) ≡ t → after ≡ before
     go false w t d e q = rw d at r.room
-    go true (found.There s) t d e q = rw (d, e) at r.room
-    go true found.Nowhere true d e q =
+    go true (Some s) t d e q = rw (d, e) at r.room
+    go true None true d e q =
         let a : refused n p ≡ answered (length (pick.picked wanted f)) = rw (d, e, q) at r.answer in
         absurd (let z : ◌≡◌ {A = ℕ} 0 1 = cc in omega arith)
-    go true found.Nowhere false d e q = rw (d, e) at r.room ∙ too_long (pick.picked wanted f) before q
+    go true None false d e q = rw (d, e) at r.room ∙ too_long (pick.picked wanted f) before q
 
 tally-kept : (old : Tally) (n p : ℕ) → (lent_of old (refused n p)).tally ≡ old
 unfolding lent_of

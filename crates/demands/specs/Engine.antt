@@ -1,9 +1,7 @@
 -- Answers by the index (document 02, #109): how an index leads to a radial, whichever form it has, and what is filled in for a list of
 -- questions. In which order a list is refused, that a refusal leaves both buffers as they were and that the promise leaves no choice is
 -- in `One`, what growth keeps in `Three`; which bytes an index has, and that its numbers are read back from them, in `Cuts`.
-use Rattle.std.specs.Prelude.{ℕ, true, List, [], ◌∷◌, map, ◌≡◌}
-use Rattle.index.specs.declared.said.Place.{Place}
-use Rattle.index.specs.declared.said.Place.TheVariants.{At, Nowhere}
+use Rattle.std.specs.Prelude.{ℕ, true, List, [], ◌∷◌, map, ◌≡◌, Option, Some, None}
 use Rattle.index.specs.Answer.{right_for}
 use Rattle.index.specs.Forms.{place_said}
 use Rattle.engine.specs.Engine.{Question, asked}
@@ -13,27 +11,27 @@ use Rattle.engine.specs.Meaning.{Leads, EachStands, AsInRow}
 
 -- a line: the bytes of an index, a radial's number, and where the index says that it is
 pub data Said : Type 0 where
-  said : List ℕ → ℕ → Place → Said
+  said : List ℕ → ℕ → Option ℕ → Said
 
 abbrev pub read : Said → Said
 read (said x n p) = said x n (place_said x n)
 
 -- two cuts of one and of two radials, at 928, at 4,000 and 2 bytes behind 2^32, in the old form and in the new one
-abbrev pub old : ℕ → Place → Said
+abbrev pub old : ℕ → Option ℕ → Said
 old = said (2 ∷ 1 ∷ 0 ∷ 2 ∷ 0 ∷ 3 ∷ 0 ∷ 0 ∷ 0 ∷ 160 ∷ 3 ∷ 0 ∷ 0 ∷ 0 ∷ 0 ∷ 0 ∷ 0 ∷ 160 ∷ 15 ∷ 0 ∷ 0 ∷ 0 ∷ 0 ∷ 0 ∷ 0 ∷ 2 ∷ 0 ∷ 0 ∷ 0 ∷ 1 ∷ 0 ∷ 0 ∷ 0 ∷ [])
 
-abbrev pub new : ℕ → Place → Said
+abbrev pub new : ℕ → Option ℕ → Said
 new = said (0 ∷ 2 ∷ 0 ∷ 1 ∷ 0 ∷ 2 ∷ 0 ∷ 3 ∷ 0 ∷ 0 ∷ 0 ∷ 160 ∷ 3 ∷ 0 ∷ 0 ∷ 0 ∷ 0 ∷ 0 ∷ 0 ∷ 160 ∷ 15 ∷ 0 ∷ 0 ∷ 0 ∷ 0 ∷ 0 ∷ 0 ∷ 2 ∷ 0 ∷ 0 ∷ 0 ∷ 1 ∷ 0 ∷ 0 ∷ 0 ∷ [])
 
 unfoldable pub said_table : List Said
 said_table =
-    old 0 Nowhere ∷ old 1 (At 928) ∷ old 2 (At 4000) ∷ old 3 (At 4294967298) ∷ old 4 Nowhere
+    old 0 None ∷ old 1 (Some 928) ∷ old 2 (Some 4000) ∷ old 3 (Some 4294967298) ∷ old 4 None
     -- numbers that are 1 in 4 bytes and in 8
-    ∷ old 4294967297 Nowhere ∷ old 18446744073709551617 Nowhere
-    ∷ new 0 Nowhere ∷ new 1 (At 928) ∷ new 2 (At 4000) ∷ new 3 (At 4294967298) ∷ new 4 Nowhere
-    ∷ new 4294967297 Nowhere ∷ new 18446744073709551617 Nowhere
+    ∷ old 4294967297 None ∷ old 18446744073709551617 None
+    ∷ new 0 None ∷ new 1 (Some 928) ∷ new 2 (Some 4000) ∷ new 3 (Some 4294967298) ∷ new 4 None
+    ∷ new 4294967297 None ∷ new 18446744073709551617 None
     -- no byte, and the start of either form alone
-    ∷ said [] 1 Nowhere ∷ said (2 ∷ []) 1 Nowhere ∷ said (0 ∷ 2 ∷ []) 1 Nowhere
+    ∷ said [] 1 None ∷ said (2 ∷ []) 1 None ∷ said (0 ∷ 2 ∷ []) 1 None
     ∷ []
 
 -- a line: radials, types and gates, and the questions that they are

@@ -2,7 +2,7 @@
 -- No public function has a condition on its caller, so each promise answers every input. Here: that every file has an
 -- ending; the numbers, the places and the order of the refusals; that everything lent is then what it was; and that no
 -- promise leaves a choice.
-use Rattle.std.specs.Prelude.{true, false, List, [], ◌∷◌, ◌↔◌, ◌⊎◌, ◌≡◌, ℕ, ◌+◌, ◌≤◌, ◌<◌, ℤ, length}
+use Rattle.std.specs.Prelude.{true, false, List, [], ◌∷◌, ◌↔◌, ◌⊎◌, ◌≡◌, ℕ, ◌+◌, ◌≤◌, ◌<◌, ℤ, length, Some, None}
 use Rattle.le.specs.Le.{stored, Bytes}
 use Rattle.wedge.specs.declared.Wedge.{Wedge}
 use Rattle.wedge.specs.Wedge.{wedge_ok}
@@ -22,7 +22,6 @@ use Rattle.moment.specs.Moment.{moment_at}
 use Rattle.moments.specs.Moments.{data_at}
 use Rattle.walk.specs.declared.due.Walk.{Walk}
 use Rattle.walk.specs.Due.{is_end, at_start}
-use Rattle.reading.specs.declared.Found.TheVariants.{There, Nowhere}
 use Rattle.reading.specs.declared.Reading.{Reading}
 use Rattle.reading.specs.declared.Stretch.{Stretch}
 use Rattle.reading.specs.declared.Verdict.{Verdict}
@@ -74,8 +73,8 @@ pub data Ending (f : List ℕ) : Type 0 where
 -- does not have by 32; the place is 0, and the data of a refused moment are empty. What is answered is what was asked for. A decoded
 -- row is refused by 30 and 31 as a gate is, and by nothing else, whatever the lists. Why a gate is what it is, is refused as the gate is
 pub record Questions (f : List ℕ) (n t : ℕ) : Type 0 where
-  pub radial : nth (stretches f) n ≡ Nowhere → ((radial_of_file f n).number ≡ 30) × ((radial_of_file f n).place ≡ 0)
-  pub no-radial : nth (stretches f) n ≡ Nowhere → where_is f n t ≡ NoRadial
+  pub radial : nth (stretches f) n ≡ None → ((radial_of_file f n).number ≡ 30) × ((radial_of_file f n).place ≡ 0)
+  pub no-radial : nth (stretches f) n ≡ None → where_is f n t ≡ NoRadial
   pub moment-30 : where_is f n t ≡ NoRadial → (told_moment (moment_told f (where_is f n t)) ≡ refused 30 0) × (data_told f (where_is f n t) ≡ [])
   pub moment-31 : where_is f n t ≡ NoMoment → (told_moment (moment_told f (where_is f n t)) ≡ refused 31 0) × (data_told f (where_is f n t) ≡ [])
   pub gate-30 : (i : ℕ) → where_is f n t ≡ NoRadial → gate_asked f n t i ≡ refused 30 0
@@ -114,17 +113,17 @@ pub record Indexed (f : List ℕ) (room : ℕ) : Type 0 where
 -- by nothing else
 pub record MendRefused (f : List ℕ) (room : ℕ) : Type 0 where
   pub mend-54 : NoTwo f → mend.answer_of f room ≡ refused 54 0
-  pub mend-33 : (s : Stretch) → last_kept f ≡ There s → room < length (mend.mended f s) → mend.answer_of f room ≡ refused 33 0
-  pub written : (s : Stretch) → last_kept f ≡ There s → length (mend.mended f s) ≤ room
+  pub mend-33 : (s : Stretch) → last_kept f ≡ Some s → room < length (mend.mended f s) → mend.answer_of f room ≡ refused 33 0
+  pub written : (s : Stretch) → last_kept f ≡ Some s → length (mend.mended f s) ≤ room
       → mend.answer_of f room ≡ answered (mend.said (length (mend.mended f s)) (mend.report_of f s))
 
 -- picking is refused by 36 where the file is not complete, then by 60 at the first radial that would have no moment left, then by 33 where
 -- the room is shorter than the volume, and by nothing else; the places of 36 and 33 are 0. Which radial 60 names is in `Picks`
 pub record PickRefused (f : List ℕ) (wanted room : ℕ) : Type 0 where
   pub pick-36 : complete f ≡ false → pick.answer_of wanted f room ≡ refused 36 0
-  pub pick-60 : complete f ≡ true → (s : Stretch) → pick.empty_in wanted f ≡ There s → pick.answer_of wanted f room ≡ refused 60 s.start
-  pub pick-33 : complete f ≡ true → pick.empty_in wanted f ≡ Nowhere → room < length (pick.picked wanted f) → pick.answer_of wanted f room ≡ refused 33 0
-  pub written : complete f ≡ true → pick.empty_in wanted f ≡ Nowhere → length (pick.picked wanted f) ≤ room
+  pub pick-60 : complete f ≡ true → (s : Stretch) → pick.empty_in wanted f ≡ Some s → pick.answer_of wanted f room ≡ refused 60 s.start
+  pub pick-33 : complete f ≡ true → pick.empty_in wanted f ≡ None → room < length (pick.picked wanted f) → pick.answer_of wanted f room ≡ refused 33 0
+  pub written : complete f ≡ true → pick.empty_in wanted f ≡ None → length (pick.picked wanted f) ≤ room
       → pick.answer_of wanted f room ≡ answered (length (pick.picked wanted f))
 
 -- a list of n questions is refused by 59 where the index is not right for the file, as none is for a file that is not complete, whatever the

@@ -13,9 +13,8 @@ ghost use Rattle.engine.specs.Engine.{asked, kind_shown, hundredths_shown, kinds
 use ask::answers;
 use ask::answers::GateAnswer;
 use index::said;
-use index::said::Place;
 use radial::Radial;
-use reading::{Found, Stretch};
+use reading::Stretch;
 
 #[derive(Clone, Copy)]
 pub enum ListAnswer {
@@ -27,21 +26,21 @@ pub enum ListAnswer {
 
 // The whole radial with a sequence number, from 1: it starts where the index says, and its own header says where it ends. The
 // header is read from its own bytes: how many there are is then known, so that the compiler copies none of them.
-fn find(file: &[u8], index: &[u8], sequence: usize) -> Found
+fn find(file: &[u8], index: &[u8], sequence: usize) -> Option<Stretch>
     requires { right_for file.now index.now ≡ true }
     ensures { result ≡ nth (stretches file.now) sequence }
 {
     match said::find(index, sequence) {
-        Place::At(start) => {
+        Some(start) => {
             let data = start + Radial::SIZE;
             let header = Radial::read(&file[start..data], 0);
-            Found::There(Stretch {
+            Some(Stretch {
                 start,
                 end: data + (header.length_of_data as usize),
                 cut: header.elevation_number,
             })
         }
-        Place::Nowhere => Found::Nowhere,
+        None => None,
     }
 }
 
@@ -51,8 +50,8 @@ fn gate(file: &[u8], index: &[u8], sequence: usize, t: u32, i: usize) -> GateAns
     ensures { told_gate_answer result ≡ gate_asked file.now sequence t i }
 {
     match find(file, index, sequence) {
-        Found::There(s) => answers::gate_at(file, s, t, i),
-        Found::Nowhere => GateAnswer::Refused(30),
+        Some(s) => answers::gate_at(file, s, t, i),
+        None => GateAnswer::Refused(30),
     }
 }
 

@@ -9,6 +9,7 @@ use mathlib.Core.Path.{◌≡◌, refl, sym, ap, subst, ◌∙◌}
 use borrow.Author.Tests.{le-leb}
 use lib.Dec.{leb, leb-suc-zero, leb-suc-suc}
 use lib.ListN.{length}
+use Rattle.std.specs.Prelude.{Some, None}
 use Rattle.le.specs.Le.{Bytes, le, items}
 use Rattle.le.proofs.Laws.{le-part}
 use Rattle.task.specs.declared.Task.{Task}
@@ -21,7 +22,6 @@ use Rattle.volume.specs.Volume.{Volume, IsVolume, bytes_of_volume}
 use Rattle.volume.proofs.Placed.{front}
 use Rattle.volume.proofs.Tells.{same_number}
 use Rattle.hope.proofs.Meaning.{means}
-use Rattle.index.specs.declared.said.Place.TheVariants.{At, Nowhere}
 use Rattle.index.specs.Answer.{right_for}
 use Rattle.index.specs.Forms.{Contents, Fit, radials_at, places_at, said_by, place_said, start_of_found, contents_of}
 use Rattle.index.specs.Index.{index_of}
@@ -66,7 +66,7 @@ module _ (f : List ℕ) {v : Volume} (o : Of v f) where
 -- ---- one radial's place
 
 at_place : (m : ℕ) (ss : List Stretch) (x : List ℕ) (at n : ℕ) → items (le 8) 8 m x at ≡ map (λ (s : Stretch). s.start) ss
-    → cond (leb 1 n && leb n m) (At (le 8 x (at + 8 * (n - 1)))) Nowhere ≡ start_of_found (nth ss n)
+    → cond (leb 1 n && leb n m) (Some (le 8 x (at + 8 * (n - 1)))) None ≡ start_of_found (nth ss n)
 unfolding items nth
 at_place zero [] x at zero e = refl
 at_place zero [] x at (suc n) e = rw (leb-suc-zero n, le-leb 1 (suc n) (omega arith))
@@ -75,7 +75,7 @@ at_place (suc m) [] x at n e = absurd (let z : ◌≡◌ {A = ℕ} 0 1 = cc in o
 at_place (suc m) (s ∷ ss) x at zero e = refl
 at_place (suc m) (s ∷ ss) x at (suc zero) e =
     let first : le 8 x at ≡ s.start = cc in
-    rw (le-leb 1 (suc m) (omega arith), add-zero at) (ap At first)
+    rw (le-leb 1 (suc m) (omega arith), add-zero at) (ap Some first)
 at_place (suc m) (s ∷ ss) x at (suc (suc n)) e =
     let rest : items (le 8) 8 m x (at + 8) ≡ map (λ (s : Stretch). s.start) ss = cc in
     let next : at + 8 * (suc (suc n) - 1) ≡ at + 8 + 8 * (suc n - 1) = omega arith in

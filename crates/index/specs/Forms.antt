@@ -1,12 +1,8 @@
 -- What the bytes of an index say, by themselves, in either form (document 02, #106), and what they are to say of a file.
-use Rattle.std.specs.Prelude.{ℕ, ◌+◌, ◌-◌, ◌*◌, ◌^◌, ◌<◌, ◌≤◌, Bool, cond, ◌&&◌, List, [], ◌∷◌, map, eqb, leb, length}
+use Rattle.std.specs.Prelude.{ℕ, ◌+◌, ◌-◌, ◌*◌, ◌^◌, ◌<◌, ◌≤◌, Bool, cond, ◌&&◌, List, [], ◌∷◌, map, eqb, leb, length, Option, Some, None}
 use Rattle.le.specs.Le.{le, items}
-use Rattle.reading.specs.declared.Found.{Found}
-use Rattle.reading.specs.declared.Found.TheVariants as found
 use Rattle.reading.specs.declared.Stretch.{Stretch}
 use Rattle.reading.specs.Reading.{stop, stretches}
-use Rattle.index.specs.declared.said.Place.{Place}
-use Rattle.index.specs.declared.said.Place.TheVariants.{At, Nowhere}
 use Rattle.index.specs.Index.{per_cut, most_old}
 
 -- how many cuts there are, how many radials each has, and where each radial is
@@ -50,13 +46,13 @@ abbrev pub place_at : List ℕ → ℕ → ℕ
 place_at x n = places_at x + 8 * (n - 1)
 
 -- and so it says where that radial is, or that there is none
-unfoldable pub place_said : List ℕ → ℕ → Place
-place_said x n = cond (leb 1 n && leb n (le 4 x (radials_at x))) (At (le 8 x (place_at x n))) Nowhere
+unfoldable pub place_said : List ℕ → ℕ → Option ℕ
+place_said x n = cond (leb 1 n && leb n (le 4 x (radials_at x))) (Some (le 8 x (place_at x n))) None
 
 -- what it is to say: where a radial that was found starts
-abbrev pub start_of_found : Found → Place
-start_of_found found.Nowhere = Nowhere
-start_of_found (found.There s) = At s.start
+abbrev pub start_of_found : Option Stretch → Option ℕ
+start_of_found None = None
+start_of_found (Some s) = Some s.start
 
 -- what is to be said for a number of cuts and some radials, and so of a file ("The house index")
 abbrev pub contents_for : ℕ → List Stretch → Contents

@@ -3,12 +3,6 @@
 ghost use Rattle.std.specs.Prelude.{◌≡◌, ◌≤◌};
 ghost use Rattle.index.specs.Forms.{old_cuts, radials_at, place_said};
 
-#[derive(Clone, Copy)]
-pub enum Place {
-    At(usize),
-    Nowhere,
-}
-
 // The number of cuts in the old form; 0 tells the new one.
 fn old_cuts(index: &[u8]) -> u8
     ensures { result ≡ old_cuts index.now }
@@ -30,15 +24,15 @@ fn radials_at(index: &[u8]) -> usize
 }
 
 // Where the radial with a sequence number is, from 1. Any bytes are taken for an index, and any number for a radial's.
-pub fn find(index: &[u8], sequence: usize) -> Place
+pub fn find(index: &[u8], sequence: usize) -> Option<usize>
     ensures { result ≡ place_said index.now sequence }
 {
     if sequence == 0 {
-        return Place::Nowhere;
+        return None;
     }
     let at = radials_at(index);
     if (le::u32_at(index, at) as usize) < sequence {
-        return Place::Nowhere;
+        return None;
     }
-    Place::At(le::u64_at(index, at + 4 + 8 * (sequence - 1)) as usize)
+    Some(le::u64_at(index, at + 4 + 8 * (sequence - 1)) as usize)
 }

@@ -8,7 +8,7 @@ ghost use Rattle.moment.specs.Moment.{moment_size};
 ghost use Rattle.listing.specs.Listing.{radial_line, moment_line, at_begin, radial_next, line_of};
 
 use moment::Moment;
-use moments::{Ahead, Place};
+use moments::Place;
 use radial::Radial;
 use reading::{Onward, Stretch};
 use walk::due::Walk;
@@ -36,13 +36,6 @@ pub struct Cursor {
     pub walk: Walk,
     pub stretch: Stretch,
     pub place: Place,
-}
-
-#[derive(Clone, Copy)]
-pub enum Next {
-    // A line, and the cursor behind it.
-    There(Line, Cursor),
-    End,
 }
 
 impl Cursor {
@@ -94,7 +87,7 @@ fn moment_line(b: &[u8], start: usize, at: usize) -> Line
     }
 }
 
-fn next_radial(file: &[u8], from: Walk) -> Next
+fn next_radial(file: &[u8], from: Walk) -> Option<(Line, Cursor)>
     ensures { result ≡ radial_next file.now from }
 {
     match reading::advance(file, from) {
@@ -102,21 +95,21 @@ fn next_radial(file: &[u8], from: Walk) -> Next
             let b = reading::own(file, stretch);
             let line = radial_line(b, stretch);
             let place = moments::first(b);
-            Next::There(
+            Some((
                 line,
                 Cursor {
                     walk,
                     stretch,
                     place,
                 },
-            )
+            ))
         }
-        Onward::Stopped(_) => Next::End,
+        Onward::Stopped(_) => None,
     }
 }
 
 // The line at a cursor; total on any cursor, also on one that no line gave.
-pub fn next_line(file: &[u8], c: Cursor) -> Next
+pub fn next_line(file: &[u8], c: Cursor) -> Option<(Line, Cursor)>
     ensures { result ≡ line_of file.now c }
 {
     let walk = c.walk;
@@ -124,17 +117,17 @@ pub fn next_line(file: &[u8], c: Cursor) -> Next
     let place = c.place;
     let b = reading::own(file, stretch);
     match moments::next(b, place) {
-        Ahead::There(at, place) => {
+        Some((at, place)) => {
             let line = moment_line(b, stretch.start, at);
-            Next::There(
+            Some((
                 line,
                 Cursor {
                     walk,
                     stretch,
                     place,
                 },
-            )
+            ))
         }
-        Ahead::End => next_radial(file, walk),
+        None => next_radial(file, walk),
     }
 }

@@ -5,6 +5,7 @@ use native.Mathlib.Omega.{arith}
 use mathlib.Core.List.{List, [], ◌∷◌, ◌++◌, append_assoc}
 use mathlib.Core.Path.{◌≡◌, refl, sym, ap, ap₂, ◌∙◌}
 use lib.ListN.{length}
+use Rattle.std.specs.Prelude.{Some, None}
 use Rattle.le.specs.Le.{bytes, Bytes}
 use Rattle.le.proofs.Laws.{part_in}
 use Rattle.rules.specs.States.{closing}
@@ -12,7 +13,6 @@ use Rattle.radial.specs.declared.Radial.{Radial}
 use Rattle.radial.specs.Radial.{radial_of, radial_at}
 use Rattle.task.specs.declared.Task.{Task}
 use Rattle.task.specs.Task.{task_of, task_at}
-use Rattle.reading.specs.declared.Found.TheVariants.{There, Nowhere}
 use Rattle.reading.specs.declared.Stretch.{Stretch}
 use Rattle.reading.specs.declared.step.Step.TheVariants.{Refused}
 use Rattle.reading.specs.Reading.{ending, stop, stretches, told}
@@ -75,12 +75,12 @@ module _ (A C : List ℕ) (s : Stretch) (l : Lies A s) where
 
 -- ---- the theorem
 
-pub same-mended : (A C : List ℕ) → Bytes A → stretches (A ++ C) ≡ stretches A → (s : Stretch) → last_kept A ≡ There s → SameMended A (A ++ C) s
+pub same-mended : (A C : List ℕ) → Bytes A → stretches (A ++ C) ≡ stretches A → (s : Stretch) → last_kept A ≡ Some s → SameMended A (A ++ C) s
 same-mended A C bs e s k =
     let l = lies A bs s k in
     let t = task-same A C s l in
     record {
-      found = ap (λ (ss : List Stretch). last_or Nowhere (kept_after 0 ss)) e ∙ k;
+      found = ap (λ (ss : List Stretch). last_or None (kept_after 0 ss)) e ∙ k;
       volume = volume-same A C s l;
       cut-number = ap (λ (t : Task). field_of cut_number_place cut_number_place t.cut_number s.cut) t;
       state =
@@ -104,7 +104,7 @@ mend-grows A C some bs complete =
       later = k.0;
       more = ap (kept_after 0) g.radials ∙ k.1;
       same = same-mended A C (split-bytes A C bs).0;
-      still = ap (λ (ss : List Stretch). last_or Nowhere (kept_after 0 ss));
+      still = ap (λ (ss : List Stretch). last_or None (kept_after 0 ss));
       refused = none-further A C;
       complete = complete;
     }

@@ -6,37 +6,36 @@ use mathlib.Core.List.{List, [], ◌∷◌, ◌++◌, append_assoc, append-nil}
 use mathlib.Core.Path.{◌≡◌, refl, sym, ap, ◌∙◌}
 use lib.Dec.{eqb}
 use borrow.Author.Tests.{eq-eqb, ne_eqb}
-use Rattle.reading.specs.declared.Found.{Found}
-use Rattle.reading.specs.declared.Found.TheVariants.{There, Nowhere}
+use Rattle.std.specs.Prelude.{Option, Some, None}
 use Rattle.reading.specs.declared.Stretch.{Stretch}
 use Rattle.mend.specs.Kept.{kept_after, last_or, cut_of, kept_of}
 
 -- the last kept radial, where two have come last and others are still to come
-unfoldable pub last_from : Found → Found → List Stretch → Found
+unfoldable pub last_from : Option Stretch → Option Stretch → List Stretch → Option Stretch
 last_from before newest [] = kept_of before newest
-last_from before newest (s ∷ ss) = last_from newest (There s) ss
+last_from before newest (s ∷ ss) = last_from newest (Some s) ss
 
-from_one : (before : Found) (s : Stretch) (ss : List Stretch) → last_from before (There s) ss ≡ last_or before (kept_after (cut_of before) (s ∷ ss))
+from_one : (before : Option Stretch) (s : Stretch) (ss : List Stretch) → last_from before (Some s) ss ≡ last_or before (kept_after (cut_of before) (s ∷ ss))
 unfolding last_from kept_of kept_after last_or cut_of
 from_one before s [] = go (eqb s.cut (cut_of before))
   where
-    go : (b : Bool) → cond b (There s) before ≡ last_or before (cond b (s ∷ []) [])
+    go : (b : Bool) → cond b (Some s) before ≡ last_or before (cond b (s ∷ []) [])
     go true = refl
     go false = refl
-from_one before s (n ∷ ns) = from_one (There s) n ns
+from_one before s (n ∷ ns) = from_one (Some s) n ns
 
-pub from_start : (ss : List Stretch) → last_or Nowhere (kept_after 0 ss) ≡ last_from Nowhere Nowhere ss
+pub from_start : (ss : List Stretch) → last_or None (kept_after 0 ss) ≡ last_from None None ss
 unfolding last_from kept_of kept_after last_or cut_of
 from_start [] = refl
-from_start (s ∷ ss) = sym (from_one Nowhere s ss)
+from_start (s ∷ ss) = sym (from_one None s ss)
 
 -- a further one has come
-pub from_more : (before newest : Found) (s : Stretch) (l ss : List Stretch) → l ≡ s ∷ ss → last_from before newest l ≡ last_from newest (There s) ss
+pub from_more : (before newest : Option Stretch) (s : Stretch) (l ss : List Stretch) → l ≡ s ∷ ss → last_from before newest l ≡ last_from newest (Some s) ss
 unfolding last_from
 from_more before newest s l ss e = ap (last_from before newest) e
 
 -- no further one comes
-pub from-none : (before newest : Found) (l : List Stretch) → l ≡ [] → last_from before newest l ≡ kept_of before newest
+pub from-none : (before newest : Option Stretch) (l : List Stretch) → l ≡ [] → last_from before newest l ≡ kept_of before newest
 unfolding last_from
 from-none before newest l e = ap (last_from before newest) e
 
@@ -74,10 +73,10 @@ kept-with b ss l e = kept-end b ss l ∙ ap (λ (x : Bool). cond x (ss ++ (l ∷
 pub kept-without : (b : ℕ) (ss : List Stretch) (l : Stretch) → (l.cut ≡ last_cut b ss → ⊥) → kept_after b (ss ++ (l ∷ [])) ≡ ss
 kept-without b ss l n = kept-end b ss l ∙ ap (λ (x : Bool). cond x (ss ++ (l ∷ [])) ss) (ne_eqb l.cut (last_cut b ss) n)
 
-pub last_end : (d : Found) (ss : List Stretch) (l : Stretch) → last_or d (ss ++ (l ∷ [])) ≡ There l
+pub last_end : (d : Option Stretch) (ss : List Stretch) (l : Stretch) → last_or d (ss ++ (l ∷ [])) ≡ Some l
 unfolding last_or
 last_end d [] l = refl
-last_end d (s ∷ ss) l = last_end (There s) ss l
+last_end d (s ∷ ss) l = last_end (Some s) ss l
 
 -- ---- the kept ones are the first
 

@@ -7,12 +7,12 @@ use mathlib.Core.List.{List, [], ◌∷◌, ◌++◌, append-nil}
 use mathlib.Core.Logic.{◌↔◌, dite}
 use mathlib.Core.Path.{◌≡◌, sym, ap, subst, ◌∙◌}
 use lib.ListN.{length, length-append}
+use Rattle.std.specs.Prelude.{Some, None}
 use Rattle.le.specs.Le.{Bytes}
 use Rattle.rules.proofs.Judged.{all_hold}
 use Rattle.radial.specs.declared.Radial.{Radial}
 use Rattle.radial.specs.Radial.{radial_at, radial_check, radial_rules}
 use Rattle.radial.proofs.Header.{header}
-use Rattle.reading.specs.declared.Found.TheVariants.{There, Nowhere}
 use Rattle.reading.specs.declared.Stretch.{Stretch}
 use Rattle.reading.specs.Reading.{nth, stretches}
 use Rattle.reading.specs.Tiling.{AllWhole, WholeRadial}
@@ -68,23 +68,23 @@ which f bs = by (seen f bs)
 
     by : Seen f → Which f
     by (some v (tail.all e)) =
-        all (sym e) (λ s q. let l = ap (last_or Nowhere) (sym e) ∙ q in let k = last-seen f v in let z : stretch_behind v.begun v.final ≡ s = cc in
+        all (sym e) (λ s q. let l = ap (last_or None) (sym e) ∙ q in let k = last-seen f v in let z : stretch_behind v.begun v.final ≡ s = cc in
         subst (λ (x : Stretch). 2 ≤ of_cut x.cut (stretches f)) z (subst (λ (ss : List Stretch). 2 ≤ of_cut (suc (length v.begun.closed)) ss) (sym e) (two-kept f v)))
     by (some v (tail.one s e z)) = alone s e z
-    by (none k (tail.all e)) = all (sym e) (λ s q. let l = ap (last_or Nowhere) (e ∙ k) in absurd (let z : ◌≡◌ {A = ℕ} 0 1 = cc in omega arith))
+    by (none k (tail.all e)) = all (sym e) (λ s q. let l = ap (last_or None) (e ∙ k) in absurd (let z : ◌≡◌ {A = ℕ} 0 1 = cc in omega arith))
     by (none k (tail.one s e z)) = alone s e z
 
 -- number 54
-pub nothing : (f : List ℕ) → Bytes f → (last_kept f ≡ Nowhere) ↔ NoTwo f
+pub nothing : (f : List ℕ) → Bytes f → (last_kept f ≡ None) ↔ NoTwo f
 unfolding last_or
 nothing f bs = (there (seen f bs), back (seen f bs))
   where
-    there : Seen f → last_kept f ≡ Nowhere → NoTwo f
+    there : Seen f → last_kept f ≡ None → NoTwo f
     there (some v t) e = let h = last-seen f v in absurd (let z : ◌≡◌ {A = ℕ} 0 1 = cc in omega arith)
     there (none k (tail.all e)) q = λ c. let h = ap (of_cut c) (e ∙ k) in omega arith
     there (none k (tail.one s e z)) q = λ c. let h = ap (of_cut c) (e ∙ ap (λ (l : List Stretch). l ++ (s ∷ [])) k) in let m = of-most c s in omega arith
 
-    back : Seen f → NoTwo f → last_kept f ≡ Nowhere
+    back : Seen f → NoTwo f → last_kept f ≡ None
     back (some v t) few =
         let first = kept-first 0 (stretches f) in
         let c = suc (length v.begun.closed) in
@@ -92,11 +92,11 @@ nothing f bs = (there (seen f bs), back (seen f bs))
         let m = two-kept f v in
         let j = ap (of_cut c) first.1 ∙ of-join c (kept f) first.0 in
         absurd (omega arith)
-    back (none k t) few = ap (last_or Nowhere) k
+    back (none k t) few = ap (last_or None) k
 
 -- ---- the cut of a radial
 
-cut-is : (f : List ℕ) (n : ℕ) (s : Stretch) → nth (stretches f) n ≡ There s → (radial_at f s.start).elevation_number ≡ s.cut
+cut-is : (f : List ℕ) (n : ℕ) (s : Stretch) → nth (stretches f) n ≡ Some s → (radial_at f s.start).elevation_number ≡ s.cut
 unfolding radial_check
 cut-is f n s e =
     let w = nth_of (AllWhole f) (WholeRadial f) (λ s l h. h) (stretches f) n s (all_whole f) e in
@@ -109,8 +109,8 @@ module _ (f g : List ℕ) (m : MadeOf f g) where
   record Both (n : ℕ) : Type 0 where
     old : Stretch
     new : Stretch
-    given : nth (stretches f) n ≡ There old
-    made : nth (stretches g) n ≡ There new
+    given : nth (stretches f) n ≡ Some old
+    made : nth (stretches g) n ≡ Some new
     cut : old.cut ≡ new.cut
 
   both : (n : ℕ) → 1 ≤ n → n ≤ length (stretches g) → Both n
@@ -148,14 +148,14 @@ module _ (f g : List ℕ) (m : MadeOf f g) where
       let x = both (suc (length (kept f))) (omega arith) (omega arith) in
       let y = both (length (kept f)) (omega arith) (omega arith) in
       -- the last of f and of g
-      let at-end : nth (stretches f) (suc (length (kept f))) ≡ There s = ap (λ (r : List Stretch). nth r (suc (length (kept f)))) e ∙ nth_end (kept f) s in
+      let at-end : nth (stretches f) (suc (length (kept f))) ≡ Some s = ap (λ (r : List Stretch). nth r (suc (length (kept f)))) e ∙ nth_end (kept f) s in
       let old-is : x.old ≡ s = let p = x.given in cc in
-      let g_end : nth (stretches g) (suc (length (kept f))) ≡ There (last g v) = ap (λ (r : List Stretch). nth r (suc (length (kept f)))) split ∙ ap (λ (i : ℕ). nth (before g v ++ (last g v ∷ [])) (suc i)) (sym k) ∙ nth_end (before g v) (last g v) in
+      let g_end : nth (stretches g) (suc (length (kept f))) ≡ Some (last g v) = ap (λ (r : List Stretch). nth r (suc (length (kept f)))) split ∙ ap (λ (i : ℕ). nth (before g v ++ (last g v ∷ [])) (suc i)) (sym k) ∙ nth_end (before g v) (last g v) in
       let new_is : x.new ≡ last g v = let p = x.made in cc in
       -- the ones before them
-      let g-before : nth (stretches g) (length (kept f)) ≡ There b.radial = ap (λ (r : List Stretch). nth r (length (kept f))) split ∙ ap (λ (i : ℕ). nth (before g v ++ (last g v ∷ [])) i) (sym k) ∙ nth-kept (before g v) (last g v ∷ []) (length (before g v)) b.radial b.is in
+      let g-before : nth (stretches g) (length (kept f)) ≡ Some b.radial = ap (λ (r : List Stretch). nth r (length (kept f))) split ∙ ap (λ (i : ℕ). nth (before g v ++ (last g v ∷ [])) i) (sym k) ∙ nth-kept (before g v) (last g v ∷ []) (length (before g v)) b.radial b.is in
       let new-before : y.new ≡ b.radial = let p = y.made in cc in
-      let f-before : nth (kept f) (length (kept f)) ≡ There y.old = sym (nth-among (kept f) (s ∷ []) (length (kept f)) (omega arith)) ∙ ap (λ (r : List Stretch). nth r (length (kept f))) (sym e) ∙ y.given in
+      let f-before : nth (kept f) (length (kept f)) ≡ Some y.old = sym (nth-among (kept f) (s ∷ []) (length (kept f)) (omega arith)) ∙ ap (λ (r : List Stretch). nth r (length (kept f))) (sym e) ∙ y.given in
       let cut : y.old.cut ≡ s.cut =
       y.cut ∙ ap (λ (r : Stretch). r.cut) new-before ∙ b.cut ∙ same-cut g v ∙ ap (λ (r : Stretch). r.cut) (sym new_is) ∙ sym x.cut ∙ ap (λ (r : Stretch). r.cut) old-is in
       let h = subst (λ (c : ℕ). 1 ≤ of_cut c (kept f)) cut (of-nth (kept f) (length (kept f)) y.old f-before) in

@@ -4,13 +4,13 @@ use native.Mathlib.Omega.{arith}
 use mathlib.Core.List.{List, ◌++◌}
 use mathlib.Core.Path.{◌≡◌, sym, ap, subst, ◌∙◌}
 use lib.ListN.{length, length-append}
+use Rattle.std.specs.Prelude.{Some, None}
 use Rattle.le.specs.Le.{run, Bytes}
 use Rattle.radial.proofs.Trips as radial-trip
 use Rattle.radial.specs.Radial.{radial_bytes}
 use Rattle.rules.proofs.Allowed.{cuts-allowed}
 use Rattle.rules.proofs.Numbers.{most_cuts-most}
 use Rattle.task.specs.declared.Task.{Task}
-use Rattle.reading.specs.declared.Found.TheVariants.{There, Nowhere}
 use Rattle.reading.specs.declared.Stretch.{Stretch}
 use Rattle.volume.specs.Volume.{bytes_of_moment, bytes_of_radial, bytes_of_volume}
 use Rattle.volume.specs.Accepted.{volume_of}
@@ -26,20 +26,20 @@ use Rattle.mend.proofs.View.{stretch_behind, View}
 
 -- ---- the last kept radial is the one that the structure has
 
-pub last-seen : (f : List ℕ) (v : View f) → last_kept f ≡ There (stretch_behind v.begun v.final)
-last-seen f v = ap (last_or Nowhere) v.kept ∙ last_end Nowhere (volume_stretches (volume_of v.begun)) (stretch_behind v.begun v.final)
+pub last-seen : (f : List ℕ) (v : View f) → last_kept f ≡ Some (stretch_behind v.begun v.final)
+last-seen f v = ap (last_or None) v.kept ∙ last_end None (volume_stretches (volume_of v.begun)) (stretch_behind v.begun v.final)
 
 pub record Viewed (f : List ℕ) (s : Stretch) : Type 0 where
   pub view : View f
   pub is : stretch_behind view.begun view.final ≡ s
 
-pub viewed : (f : List ℕ) → Bytes f → (s : Stretch) → last_kept f ≡ There s → Viewed f s
+pub viewed : (f : List ℕ) → Bytes f → (s : Stretch) → last_kept f ≡ Some s → Viewed f s
 unfolding last_or
 viewed f bs s e = by (seen f bs)
   where
     by : Seen f → Viewed f s
     by (some v t) = let h = last-seen f v in record { view = v; is = cc }
-    by (none k t) = let h = ap (last_or Nowhere) k in absurd (let z : ◌≡◌ {A = ℕ} 0 1 = cc in omega arith)
+    by (none k t) = let h = ap (last_or None) k in absurd (let z : ◌≡◌ {A = ℕ} 0 1 = cc in omega arith)
 
 -- ---- where it lies
 
@@ -71,5 +71,5 @@ module _ (f : List ℕ) (v : View f) where
       let rest = length-append (bytes_of_radial r) v.rest in
       record { first = omega arith; last = omega arith; few = omega arith; start = omega arith; header = omega arith; end = omega arith }
 
-pub lies : (f : List ℕ) → Bytes f → (s : Stretch) → last_kept f ≡ There s → Lies f s
+pub lies : (f : List ℕ) → Bytes f → (s : Stretch) → last_kept f ≡ Some s → Lies f s
 lies f bs s e = let v = viewed f bs s e in subst (Lies f) v.is (view-lies f v.view)

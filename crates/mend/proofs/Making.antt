@@ -5,6 +5,7 @@ use mathlib.Core.List.{List, [], ◌++◌, append_assoc, append-nil}
 use mathlib.Core.Path.{◌≡◌, sym, ap, ap₂, subst, ◌∙◌}
 use lib.ListN.{length, drop, length-append}
 use lib.Seq.{drop-drop}
+use Rattle.std.specs.Prelude.{Option, Some}
 use Rattle.le.specs.Le.{bytes, part, Bytes}
 use Rattle.le.proofs.Laws.{length-bytes, part_in, part-past}
 use Rattle.cut.specs.Cut.{cut_at, cut_of}
@@ -12,8 +13,6 @@ use Rattle.generic.specs.Generic.{generic_at, generic_of}
 use Rattle.radial.specs.Radial.{radial_at}
 use Rattle.site.specs.Site.{site_at, site_of}
 use Rattle.walk.specs.Due.{cut_place}
-use Rattle.reading.specs.declared.Found.{Found}
-use Rattle.reading.specs.declared.Found.TheVariants.{There}
 use Rattle.reading.specs.declared.Stretch.{Stretch}
 use Rattle.reading.specs.Reading.{bytes_of, nth, stretches}
 use Rattle.volume.specs.InPlace.{task_block}
@@ -92,7 +91,7 @@ module _ (f : List ℕ) (bs : Bytes f) (v : View f) (later : List Stretch) (firs
   radial-made n one most =
       let c = radials f v in
       let x : Nth _ _ _ n = pairs-nth (pairs f v) n one (omega arith) in
-      let given : nth (stretches f) n ≡ There x.s = ap (λ (l : List Stretch). nth l n) first ∙ nth-kept (kept f) later n x.s x.here in
+      let given : nth (stretches f) n ≡ Some x.s = ap (λ (l : List Stretch). nth l n) first ∙ nth-kept (kept f) later n x.s x.here in
       let state = (radial_at g x.u.start).state in
       let h = (alike f g n _ x.s x.u given x.there x.pair.start x.pair.long x.pair.behind).header in
       record {
@@ -101,9 +100,9 @@ module _ (f : List ℕ) (bs : Bytes f) (v : View f) (later : List Stretch) (firs
         given = given;
         made = x.there;
         header =
-            ap (λ (w : Found). (radial_told g w).header) (sym x.there)
+            ap (λ (w : Option Stretch). (radial_told g w).header) (sym x.there)
             ∙ h
-            ∙ ap (λ (w : Found). with_state (radial_told f w).header state) given;
+            ∙ ap (λ (w : Option Stretch). with_state (radial_told f w).header state) given;
         moments = sym (drop-drop 60 4 (bytes_of g x.u)) ∙ ap (drop 60) x.pair.behind ∙ drop-drop 60 4 (bytes_of f x.s);
       }
 

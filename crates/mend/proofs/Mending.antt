@@ -4,8 +4,8 @@ use native.Mathlib.Omega.{arith}
 use mathlib.Core.List.{List}
 use mathlib.Core.Path.{◌≡◌, ap, subst}
 use lib.ListN.{length}
+use Rattle.std.specs.Prelude.{None}
 use Rattle.le.specs.Le.{Bytes}
-use Rattle.reading.specs.declared.Found.TheVariants.{Nowhere}
 use Rattle.reading.specs.declared.Stretch.{Stretch}
 use Rattle.reading.specs.Reading.{stretches}
 use Rattle.mend.specs.Closed.{gap_of, InPieces, Closed, Mending}
@@ -61,7 +61,7 @@ closed f bs v =
     }
 
 -- nothing is made where nothing is kept: a volume has two radials at least
-no-volume : (f : List ℕ) → Bytes f → last_kept f ≡ Nowhere → (g : List ℕ) → MadeOf f g → ⊥
+no-volume : (f : List ℕ) → Bytes f → last_kept f ≡ None → (g : List ℕ) → MadeOf f g → ⊥
 no-volume f bs e g m = by (seen f bs)
   where
     by : Seen f → ⊥

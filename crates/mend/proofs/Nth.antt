@@ -8,7 +8,7 @@ use mathlib.Core.Path.{◌≡◌, refl, ap}
 use lib.Dec.{eqb}
 use lib.ListN.{length}
 use borrow.Author.Tests.{eq-eqb}
-use Rattle.reading.specs.declared.Found.TheVariants.{There}
+use Rattle.std.specs.Prelude.{Some}
 use Rattle.reading.specs.declared.Stretch.{Stretch}
 use Rattle.reading.specs.Reading.{nth}
 use Rattle.volume.specs.InPlace.{of_cut}
@@ -16,7 +16,7 @@ use Rattle.mend.proofs.Keeping.{last_cut}
 
 -- ---- by their number
 
-pub nth-within : (ss : List Stretch) (n : ℕ) (s : Stretch) → nth ss n ≡ There s → n ≤ length ss
+pub nth-within : (ss : List Stretch) (n : ℕ) (s : Stretch) → nth ss n ≡ Some s → n ≤ length ss
 unfolding nth
 nth-within [] n s e = absurd (let z : ◌≡◌ {A = ℕ} 0 1 = cc in omega arith)
 nth-within (x ∷ ss) zero s e = omega arith
@@ -24,7 +24,7 @@ nth-within (x ∷ ss) (suc zero) s e = omega arith
 nth-within (x ∷ ss) (suc (suc k)) s e = let h = nth-within ss (suc k) s e in omega arith
 
 -- behind some others
-pub nth_end : (ss : List Stretch) (l : Stretch) → nth (ss ++ (l ∷ [])) (suc (length ss)) ≡ There l
+pub nth_end : (ss : List Stretch) (l : Stretch) → nth (ss ++ (l ∷ [])) (suc (length ss)) ≡ Some l
 unfolding nth
 nth_end [] l = refl
 nth_end (x ∷ ss) l = nth_end ss l
@@ -48,7 +48,7 @@ some-last (x ∷ ss) h = omega arith
 -- the last of some has their last cut
 pub record LastOf (b : ℕ) (ss : List Stretch) : Type 0 where
   pub radial : Stretch
-  pub is : nth ss (length ss) ≡ There radial
+  pub is : nth ss (length ss) ≡ Some radial
   pub cut : radial.cut ≡ last_cut b ss
 
 pub last_of : (b : ℕ) (ss : List Stretch) → 1 ≤ length ss → LastOf b ss
@@ -67,8 +67,8 @@ pub data Pairs (P : Stretch → Stretch → Type 0) : List Stretch → List Stre
 pub record Nth (P : Stretch → Stretch → Type 0) (ss us : List Stretch) (n : ℕ) : Type 0 where
   pub s : Stretch
   pub u : Stretch
-  pub here : nth ss n ≡ There s
-  pub there : nth us n ≡ There u
+  pub here : nth ss n ≡ Some s
+  pub there : nth us n ≡ Some u
   pub pair : P s u
 
 module _ {P : Stretch → Stretch → Type 0} where
@@ -110,7 +110,7 @@ of-most k s = go (eqb s.cut k)
     go false = omega arith
 
 -- one of them is of its own cut
-pub of-nth : (ss : List Stretch) (n : ℕ) (s : Stretch) → nth ss n ≡ There s → 1 ≤ of_cut s.cut ss
+pub of-nth : (ss : List Stretch) (n : ℕ) (s : Stretch) → nth ss n ≡ Some s → 1 ≤ of_cut s.cut ss
 unfolding nth
 of-nth [] n s e = absurd (let z : ◌≡◌ {A = ℕ} 0 1 = cc in omega arith)
 of-nth (x ∷ ss) zero s e = absurd (let z : ◌≡◌ {A = ℕ} 0 1 = cc in omega arith)

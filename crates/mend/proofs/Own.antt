@@ -8,6 +8,7 @@ use lib.Dec.{eqb, leb}
 use lib.IntN.{ℤ}
 use lib.ListN.{length, take, drop}
 use lib.Seq.{drop-drop}
+use Rattle.std.specs.Prelude.{Option, Some, None}
 use Rattle.le.specs.Le.{le, part}
 use Rattle.le.proofs.Laws.{le-own, part-drop, part-part}
 use Rattle.moment.specs.declared.Moment.{Moment}
@@ -17,9 +18,7 @@ use Rattle.radial.specs.Radial.{radial_of, radial_at}
 use Rattle.gates.specs.declared.RowAnswer.{RowAnswer}
 use Rattle.gates.specs.Codes.{codes_of}
 use Rattle.gates.specs.Rows.{Rowed}
-use Rattle.moments.specs.declared.Found as moment
 use Rattle.moments.specs.Moments.{after, moments_from, moments_of, find_in, data_at}
-use Rattle.reading.specs.declared.Found.TheVariants.{There}
 use Rattle.reading.specs.declared.Stretch.{Stretch}
 use Rattle.reading.specs.Reading.{stretches, nth, bytes_of}
 use Rattle.ask.specs.declared.places.Where.{Where}
@@ -82,12 +81,12 @@ module _ (b c : List ℕ) (long : length c ≡ length b) (same : drop 4 c ≡ dr
   data-same at h = ap₂ take (ap (λ (m : Moment). m.length) (moment-same at h)) (behind (at + 32) (omega arith))
 
   -- what is told of a search in c and of the same search in b, each by the header and the data of the moment that it finds
-  module _ {ℓ} {X : Type ℓ} (v w : moment.Found → X) (none : v moment.TheVariants.Nowhere ≡ w moment.TheVariants.Nowhere)
-      (one : (p : ℕ) → moment_at c p ≡ moment_at b p → data_at c p ≡ data_at b p → v (moment.TheVariants.At p) ≡ w (moment.TheVariants.At p)) (t : ℕ) where
+  module _ {ℓ} {X : Type ℓ} (v w : Option ℕ → X) (none : v None ≡ w None)
+      (one : (p : ℕ) → moment_at c p ≡ moment_at b p → data_at c p ≡ data_at b p → v (Some p) ≡ w (Some p)) (t : ℕ) where
     told-on : (at : ℕ) → 4 ≤ at → (l m : List ℕ) → v (find_in c t l) ≡ w (find_in b t m) → v (find_in c t (at ∷ l)) ≡ w (find_in b t (at ∷ m))
     unfolding find_in
     told-on at h l m rest =
-        ap (λ (x : Moment). v (cond (eqb x.data_type t) (moment.TheVariants.At at) (find_in c t l))) (moment-same at h)
+        ap (λ (x : Moment). v (cond (eqb x.data_type t) (Some at) (find_in c t l))) (moment-same at h)
         ∙ either v w (eqb (moment_at b at).data_type t) (one at (moment-same at h) (data-same at h)) rest
 
     told-from : (k at : ℕ) → 4 ≤ at → v (find_in c t (moments_from k c at)) ≡ w (find_in b t (moments_from k b at))
@@ -106,7 +105,7 @@ module _ (b c : List ℕ) (long : length c ≡ length b) (same : drop 4 c ≡ dr
 
 -- ---- the two radials
 
-module _ (f g : List ℕ) (n gap : ℕ) (s u : Stretch) (here : nth (stretches f) n ≡ There s) (there : nth (stretches g) n ≡ There u)
+module _ (f g : List ℕ) (n gap : ℕ) (s u : Stretch) (here : nth (stretches f) n ≡ Some s) (there : nth (stretches g) n ≡ Some u)
     (start : s.start ≡ u.start + gap) (long : length (bytes_of g u) ≡ length (bytes_of f s)) (same : drop 4 (bytes_of g u) ≡ drop 4 (bytes_of f s)) where
   header-alike : radial_at g u.start ≡ with_state (radial_at f s.start) (radial_at g u.start).state
   header-alike =

@@ -10,6 +10,7 @@ use borrow.Author.Tests.{eq-eqb, ne_eqb}
 use lib.Dec.{eqb}
 use lib.ListN.{length, take, drop, length-append}
 use lib.Seq.{take_at, drop_at}
+use Rattle.std.specs.Prelude.{Option, Some}
 use Rattle.le.specs.Le.{le, bytes, run}
 use Rattle.le.proofs.Here.{At, here}
 use Rattle.le.proofs.Laws.{length-bytes, le_bytes}
@@ -17,8 +18,6 @@ use Rattle.rules.specs.States.{closing}
 use Rattle.rules.proofs.Numbers.{closing-small}
 use Rattle.radial.specs.declared.Radial.{Radial}
 use Rattle.radial.specs.Radial.{radial_at}
-use Rattle.reading.specs.declared.Found.{Found}
-use Rattle.reading.specs.declared.Found.TheVariants.{There}
 use Rattle.reading.specs.declared.Stretch.{Stretch}
 use Rattle.reading.specs.Reading.{stretches, nth, bytes_of}
 use Rattle.volume.specs.Volume.{VolumeRadial, Headed, IsVolume, bytes_of_radial, bytes_of_volume}
@@ -65,7 +64,7 @@ module _ (f g : List ℕ) (gap : ℕ) where
   same-moved s u h = record { start = h.start; cut = h.cut; long = ap length h.bytes; behind = ap (drop 4) h.bytes }
 
   -- so they are answered alike, by their number
-  moved-alike : (n x : ℕ) (s u : Stretch) → nth (stretches f) n ≡ There s → nth (stretches g) n ≡ There u → Moved s u → (radial_at (bytes_of g u) 0).state ≡ x
+  moved-alike : (n x : ℕ) (s u : Stretch) → nth (stretches f) n ≡ Some s → nth (stretches g) n ≡ Some u → Moved s u → (radial_at (bytes_of g u) 0).state ≡ x
       → Alike f g n gap x
   moved-alike n x s u here there m e =
       subst (Alike f g n gap) (ap (λ (r : Radial). r.state) (sym (own-radial g u (nth-placed g n u there))) ∙ e)
@@ -188,10 +187,10 @@ module _ (f : List ℕ) (v : View f) (is : IsVolume (closed_volume v.begun v.fin
 
   -- where the radials of both files are these
   module _ (read : stretches g ≡ volume_stretches (closed_volume b r)) (later : List Stretch) (first : stretches f ≡ kept f ++ later) where
-    here_of : (n : ℕ) (s : Stretch) → nth (before ++ (stretch_behind b r ∷ [])) n ≡ There s → nth (stretches f) n ≡ There s
+    here_of : (n : ℕ) (s : Stretch) → nth (before ++ (stretch_behind b r ∷ [])) n ≡ Some s → nth (stretches f) n ≡ Some s
     here_of n s e = ap (λ (l : List Stretch). nth l n) first ∙ nth-kept (kept f) later n s (ap (λ (l : List Stretch). nth l n) v.kept ∙ e)
 
-    there-of : (n : ℕ) (u : Stretch) → nth (after ++ (stretch_behind c q ∷ [])) n ≡ There u → nth (stretches g) n ≡ There u
+    there-of : (n : ℕ) (u : Stretch) → nth (after ++ (stretch_behind c q ∷ [])) n ≡ Some u → nth (stretches g) n ≡ Some u
     there-of n u e = ap (λ (l : List Stretch). nth l n) (read ∙ radials) ∙ e
 
     early-alike : (n : ℕ) → 1 ≤ n → n ≤ length before → Alike f g n gap (radial_of_file f n).header.state
@@ -200,7 +199,7 @@ module _ (f : List ℕ) (v : View f) (is : IsVolume (closed_volume v.begun v.fin
         let p = pairs-nth walked n low high in
         let here = here_of n p.s (nth-kept before (stretch_behind b r ∷ []) n p.s p.here) in
         let there = there-of n p.u (nth-kept after (stretch_behind c q ∷ []) n p.u p.there) in
-        let told : radial_at f p.s.start ≡ (radial_of_file f n).header = ap (λ (x : Found). (radial_told f x).header) (sym here) in
+        let told : radial_at f p.s.start ≡ (radial_of_file f n).header = ap (λ (x : Option Stretch). (radial_told f x).header) (sym here) in
         let header = ap (λ (l : List ℕ). radial_at l 0) p.pair.bytes ∙ own-radial f p.s (nth-placed f n p.s here) ∙ told in
         moved-alike f g gap n (radial_of_file f n).header.state p.s p.u here there (same-moved f g gap p.s p.u p.pair) (ap (λ (h : Radial). h.state) header)
 

@@ -1,9 +1,8 @@
 -- What mending makes of a file (document 02, #107): a complete volume, with every answer on a kept radial, and the longest that there is.
-use Rattle.std.specs.Prelude.{ℕ, ◌+◌, ◌*◌, ◌-◌, ◌≤◌, cond, List, [], ◌∷◌, ◌++◌, ◌↔◌, ◌≡◌, eqb, length}
+use Rattle.std.specs.Prelude.{ℕ, ◌+◌, ◌*◌, ◌-◌, ◌≤◌, cond, List, [], ◌∷◌, ◌++◌, ◌↔◌, ◌≡◌, eqb, length, Some, None}
 use Rattle.le.specs.Le.{le, bytes, patch}
 use Rattle.cut.specs.Cut.{cut_size}
 use Rattle.walk.specs.Due.{cut_place}
-use Rattle.reading.specs.declared.Found.TheVariants.{There, Nowhere}
 use Rattle.reading.specs.declared.Stretch.{Stretch}
 use Rattle.reading.specs.Reading.{stretches, told}
 use Rattle.volume.specs.InPlace.{of_cut}
@@ -22,7 +21,7 @@ use Rattle.mend.specs.Mend.{behind_cut, cut_number, cut_number_place, last_state
 
 -- all whole ones, the last of which is not alone in its cut; or all but a last one that is
 pub data Which (f : List ℕ) : Type 0 where
-  all : kept f ≡ stretches f → ((s : Stretch) → last_or Nowhere (stretches f) ≡ There s → 2 ≤ of_cut s.cut (stretches f)) → Which f
+  all : kept f ≡ stretches f → ((s : Stretch) → last_or None (stretches f) ≡ Some s → 2 ≤ of_cut s.cut (stretches f)) → Which f
   but_last : (s : Stretch) → stretches f ≡ kept f ++ (s ∷ []) → of_cut s.cut (stretches f) ≡ 1 → Which f
 
 -- no cut has two whole radials (number 54)
@@ -114,7 +113,7 @@ pub record Reported (f : List ℕ) (s : Stretch) (r : Report) : Type 0 where
 -- A comes out as it is, and the report names no field and no cut; the dropped stretch is what followed
 pub record HandedBack (A C : List ℕ) : Type 0 where
   pub last : Stretch
-  pub found : last_kept (A ++ C) ≡ There last
+  pub found : last_kept (A ++ C) ≡ Some last
   pub same : mended (A ++ C) last ≡ A
   pub no_number : (report_of (A ++ C) last).cut_number ≡ Same
   pub no-state : (report_of (A ++ C) last).state ≡ Same
@@ -127,7 +126,7 @@ pub record HandedBack (A C : List ℕ) : Type 0 where
 pub record Mending (f : List ℕ) : Type 0 where
   pub which : Which f
   -- 54 exactly where no cut has two whole radials; then no complete volume is made of them
-  pub nothing : (last_kept f ≡ Nowhere) ↔ NoTwo f
-  pub none : last_kept f ≡ Nowhere → (g : List ℕ) → MadeOf f g → ⊥
-  pub closed : (s : Stretch) → last_kept f ≡ There s → Closed f s
-  pub reported : (s : Stretch) → last_kept f ≡ There s → Reported f s (report_of f s)
+  pub nothing : (last_kept f ≡ None) ↔ NoTwo f
+  pub none : last_kept f ≡ None → (g : List ℕ) → MadeOf f g → ⊥
+  pub closed : (s : Stretch) → last_kept f ≡ Some s → Closed f s
+  pub reported : (s : Stretch) → last_kept f ≡ Some s → Reported f s (report_of f s)

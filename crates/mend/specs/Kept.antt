@@ -1,7 +1,5 @@
 -- Which radials a mended volume keeps (document 02, #107): all whole ones, but for a last one that is alone in its cut.
-use Rattle.std.specs.Prelude.{ℕ, cond, List, [], ◌∷◌, eqb}
-use Rattle.reading.specs.declared.Found.{Found}
-use Rattle.reading.specs.declared.Found.TheVariants.{There, Nowhere}
+use Rattle.std.specs.Prelude.{ℕ, cond, List, [], ◌∷◌, eqb, Option, Some, None}
 use Rattle.reading.specs.declared.Stretch.{Stretch}
 use Rattle.reading.specs.Reading.{stretches}
 
@@ -15,20 +13,20 @@ abbrev pub kept : List ℕ → List Stretch
 kept f = kept_after 0 (stretches f)
 
 -- the last of some radials
-unfoldable pub last_or : Found → List Stretch → Found
+unfoldable pub last_or : Option Stretch → List Stretch → Option Stretch
 last_or none [] = none
-last_or none (s ∷ ss) = last_or (There s) ss
+last_or none (s ∷ ss) = last_or (Some s) ss
 
-abbrev pub last_kept : List ℕ → Found
-last_kept f = last_or Nowhere (kept f)
+abbrev pub last_kept : List ℕ → Option Stretch
+last_kept f = last_or None (kept f)
 
 -- ---- the same by the last two radials alone, as the code has it
 
-unfoldable pub cut_of : Found → ℕ
-cut_of Nowhere = 0
-cut_of (There s) = s.cut
+unfoldable pub cut_of : Option Stretch → ℕ
+cut_of None = 0
+cut_of (Some s) = s.cut
 
 -- the last radial that is kept, of the newest one and the one before it
-unfoldable pub kept_of : Found → Found → Found
-kept_of before Nowhere = before
-kept_of before (There s) = cond (eqb s.cut (cut_of before)) (There s) before
+unfoldable pub kept_of : Option Stretch → Option Stretch → Option Stretch
+kept_of before None = before
+kept_of before (Some s) = cond (eqb s.cut (cut_of before)) (Some s) before

@@ -1,12 +1,11 @@
 -- What it is to be made of a file's leading whole radials (document 02, #107): the file's own records in their order, but for the two fields
 -- that mending changes, the cut number and the state of a radial.
-use Rattle.std.specs.Prelude.{ℕ, ◌≤◌, List, [], ◌∷◌, ◌≡◌, length, drop}
+use Rattle.std.specs.Prelude.{ℕ, ◌≤◌, List, [], ◌∷◌, ◌≡◌, length, drop, Some}
 use Rattle.le.specs.Le.{Bytes}
 use Rattle.generic.specs.Generic.{generic_at, generic_size}
 use Rattle.radial.specs.Radial.{radial_at, radial_size}
 use Rattle.site.specs.Site.{site_at}
 use Rattle.task.specs.declared.Task.{Task}
-use Rattle.reading.specs.declared.Found.TheVariants.{There}
 use Rattle.reading.specs.declared.Stretch.{Stretch}
 use Rattle.reading.specs.Reading.{bytes_of, nth, stretches, told}
 use Rattle.volume.specs.InPlace.{cut_block, task_block}
@@ -40,8 +39,8 @@ with_cuts t n =
 pub record SameRadial (f g : List ℕ) (n : ℕ) : Type 0 where
   pub old : Stretch
   pub new : Stretch
-  pub given : nth (stretches f) n ≡ There old
-  pub made : nth (stretches g) n ≡ There new
+  pub given : nth (stretches f) n ≡ Some old
+  pub made : nth (stretches g) n ≡ Some new
   pub header : radial_at g new.start ≡ with_state (radial_at f old.start) (radial_at g new.start).state
   pub moments : drop radial_size (bytes_of g new) ≡ drop radial_size (bytes_of f old)
 

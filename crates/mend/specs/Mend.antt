@@ -1,5 +1,5 @@
 -- A broken volume closed (document 02, #107): the file's own bytes, with two fields changed and two stretches left out.
-use Rattle.std.specs.Prelude.{ℕ, ◌+◌, ◌-◌, ◌≤◌, cond, List, [], ◌∷◌, ◌++◌, ◌≡◌, eqb, leb, length, take, drop}
+use Rattle.std.specs.Prelude.{ℕ, ◌+◌, ◌-◌, ◌≤◌, cond, List, [], ◌∷◌, ◌++◌, ◌≡◌, eqb, leb, length, take, drop, Option, Some, None}
 use Rattle.le.specs.Le.{bytes, patch, stored}
 use Rattle.rules.specs.States.{closing}
 use Rattle.cut.specs.Cut.{cut_size}
@@ -8,8 +8,6 @@ use Rattle.radial.specs.Radial.{radial_at, radial_size}
 use Rattle.site.specs.Site.{site_size}
 use Rattle.walk.specs.Due.{cut_place}
 use Rattle.gates.specs.Telling.{Telling, refused, answered}
-use Rattle.reading.specs.declared.Found.{Found}
-use Rattle.reading.specs.declared.Found.TheVariants.{There, Nowhere}
 use Rattle.reading.specs.declared.Stretch.{Stretch}
 use Rattle.volume.specs.InPlace.{task_block}
 use Rattle.mend.specs.declared.report.Field.{Field}
@@ -101,14 +99,14 @@ told_mended (Written size r) = answered (said size r)
 told_mended (Refused number) = refused number 0
 
 -- 54 where no radial is kept, then 33 where the room of n bytes is too short, both at place 0
-unfoldable pub answer_by : List ℕ → ℕ → Found → Telling Said
-answer_by f n Nowhere = refused 54 0
-answer_by f n (There s) = cond (leb (length (mended f s)) n) (answered (said (length (mended f s)) (report_of f s))) (refused 33 0)
+unfoldable pub answer_by : List ℕ → ℕ → Option Stretch → Telling Said
+answer_by f n None = refused 54 0
+answer_by f n (Some s) = cond (leb (length (mended f s)) n) (answered (said (length (mended f s)) (report_of f s))) (refused 33 0)
 
 -- what the room then holds: at its front the volume, where it fits; refused, what it held
-unfoldable pub room_by : List ℕ → List ℕ → Found → List ℕ
-room_by f room Nowhere = room
-room_by f room (There s) = stored (length (mended f s)) room 0 (mended f s)
+unfoldable pub room_by : List ℕ → List ℕ → Option Stretch → List ℕ
+room_by f room None = room
+room_by f room (Some s) = stored (length (mended f s)) room 0 (mended f s)
 
 abbrev pub answer_of : List ℕ → ℕ → Telling Said
 answer_of f n = answer_by f n (last_kept f)

@@ -2,22 +2,22 @@
 ghost use Rattle.std.specs.Prelude.{◌≡◌};
 ghost use Rattle.mend.specs.Kept.{cut_of, kept_of, last_kept};
 
-use reading::{Found, Onward};
+use reading::{Onward, Stretch};
 use walk::due::Walk;
 
-fn cut_of(radial: Found) -> u32
+fn cut_of(radial: Option<Stretch>) -> u32
     ensures { result ≡ cut_of radial }
 {
     match radial {
-        Found::There(s) => s.cut,
-        Found::Nowhere => 0,
+        Some(s) => s.cut,
+        None => 0,
     }
 }
 
-fn kept_of(before: Found, newest: Found) -> Found
+fn kept_of(before: Option<Stretch>, newest: Option<Stretch>) -> Option<Stretch>
     ensures { result ≡ kept_of before newest }
 {
-    let Found::There(s) = newest else {
+    let Some(s) = newest else {
         return before;
     };
     if s.cut == cut_of(before) {
@@ -26,17 +26,17 @@ fn kept_of(before: Found, newest: Found) -> Found
     before
 }
 
-pub(crate) fn last_kept(file: &[u8]) -> Found
+pub(crate) fn last_kept(file: &[u8]) -> Option<Stretch>
     ensures { result ≡ last_kept file.now }
 {
     let mut w = Walk::begin();
-    let mut before = Found::Nowhere;
-    let mut newest = Found::Nowhere;
+    let mut before = None;
+    let mut newest = None;
     loop {
         match reading::advance(file, w) {
             Onward::Whole(s, n) => {
                 before = newest;
-                newest = Found::There(s);
+                newest = Some(s);
                 w = n;
             }
             Onward::Stopped(_) => {

@@ -12,7 +12,7 @@ pub mod report;
 use crate::keep::last_kept;
 use crate::lay::{lay, size_of};
 use crate::report::{Report, report_of};
-use reading::Found;
+use reading::Stretch;
 
 #[derive(Clone, Copy)]
 pub enum Mended {
@@ -26,7 +26,7 @@ pub fn mend(file: &[u8], room: &mut [u8]) -> Mended
     ensures { Mends file.now room.old result room.new }
 {
     match last_kept(file) {
-        Found::There(s) => {
+        Some(s) => {
             let size = size_of(file, s);
             if room.len() < size {
                 return Mended::Refused(33);
@@ -34,6 +34,6 @@ pub fn mend(file: &[u8], room: &mut [u8]) -> Mended
             lay(file, s, room);
             Mended::Written(size, report_of(file, s))
         }
-        Found::Nowhere => Mended::Refused(54),
+        None => Mended::Refused(54),
     }
 }

@@ -9,15 +9,12 @@ use native.Mathlib.Omega.{arith}
 use lib.Dec.{eqb, leb}
 use lib.ListN.{length}
 use borrow.Author.Tests.{leb-true, eqb-true, eqb-false}
+use Rattle.std.specs.Prelude.{Option, Some, None}
 use Rattle.le.specs.Le.{le}
 use Rattle.le.proofs.Laws.{le-part}
 use Rattle.moment.specs.Moment.{moment_of, moment_at}
 use Rattle.radial.specs.Radial.{radial_of, radial_at}
 use Rattle.moments.specs.declared.Place.{Place}
-use Rattle.moments.specs.declared.Ahead.{Ahead}
-use Rattle.moments.specs.declared.Ahead.TheVariants.{There, End}
-use Rattle.moments.specs.declared.Found.{Found}
-use Rattle.moments.specs.declared.Found.TheVariants.{At, Nowhere}
 use Rattle.moments.specs.Moments.{after, moments_from, moments_at, ahead_from, ahead_of, find_in}
 
 -- a field of a header is the number at the field's place
@@ -40,9 +37,9 @@ pub record Goes (b : List ℕ) (p : Place) (at : ℕ) (q : Place) : Type 0 where
   pub fewer : q.todo < p.todo
 
 -- what a step says of the moments from its place on
-abbrev Says : List ℕ → Place → Ahead → Type 0
-Says b p (There at q) = Goes b p at q
-Says b p End = moments_at b p ≡ []
+abbrev Says : List ℕ → Place → Option (ℕ × Place) → Type 0
+Says b p (Some (at, q)) = Goes b p at q
+Says b p None = moments_at b p ≡ []
 
 says : (b : List ℕ) (p : Place) → Says b p (ahead_of b p)
 unfolding ahead_from moments_from
@@ -54,11 +51,11 @@ says b p = go p.todo p.at (leb (p.at + 32) (length b)) refl
     go (suc k) a false e = rw e (rw e)
 
 -- where a step finds a moment, it is the first of those to come, and the others come from q on
-pub there : (b : List ℕ) (p : Place) (at : ℕ) (q : Place) → ahead_of b p ≡ There at q → Goes b p at q
+pub there : (b : List ℕ) (p : Place) (at : ℕ) (q : Place) → ahead_of b p ≡ Some (at, q) → Goes b p at q
 there b p at q e = subst (Says b p) e (says b p)
 
 -- where it finds none, none is to come
-pub end : (b : List ℕ) (p : Place) → ahead_of b p ≡ End → moments_at b p ≡ []
+pub end : (b : List ℕ) (p : Place) → ahead_of b p ≡ None → moments_at b p ≡ []
 end b p e = subst (Says b p) e (says b p)
 
 -- the header of each moment lies within b
@@ -77,14 +74,14 @@ pub record Among (b : List ℕ) (t : ℕ) (l : List ℕ) (at : ℕ) : Type 0 whe
   pub type : (moment_at b at).data_type ≡ t
 
 -- what a search for type t says of the moments of l
-abbrev Tells : List ℕ → ℕ → List ℕ → Found → Type 0
-Tells b t l (At at) = Among b t l at
-Tells b t l Nowhere = (at : ℕ) → Among b t l at → ⊥
+abbrev Tells : List ℕ → ℕ → List ℕ → Option ℕ → Type 0
+Tells b t l (Some at) = Among b t l at
+Tells b t l None = (at : ℕ) → Among b t l at → ⊥
 
 -- a moment of another type before them changes nothing
-passed : (b : List ℕ) (t x : ℕ) (l : List ℕ) (f : Found) → ((moment_at b x).data_type ≡ t → ⊥) → Tells b t l f → Tells b t (x ∷ l) f
-passed b t x l (At at) other r = record { one = Memᴰ.tail r.one; type = r.type }
-passed b t x l Nowhere other r = λ at a.
+passed : (b : List ℕ) (t x : ℕ) (l : List ℕ) (f : Option ℕ) → ((moment_at b x).data_type ≡ t → ⊥) → Tells b t l f → Tells b t (x ∷ l) f
+passed b t x l (Some at) other r = record { one = Memᴰ.tail r.one; type = r.type }
+passed b t x l None other r = λ at a.
     ⊎_elim (λ i. other (rw (← i) a.type)) (λ m. r at (record { one = m; type = a.type })) (Memᴰ.cases_cons a.one)
 
 tells : (b : List ℕ) (t : ℕ) (l : List ℕ) → Tells b t l (find_in b t l)
@@ -97,9 +94,9 @@ tells b t (x ∷ l) = go (eqb (moment_at b x).data_type t) refl (tells b t l)
     go false e r = rw e (passed b t x l (find_in b t l) (eqb-false _ _ e) r)
 
 -- where a search finds a moment, it is one of them and has the type
-pub found : (b : List ℕ) (t : ℕ) (l : List ℕ) (at : ℕ) → find_in b t l ≡ At at → Among b t l at
+pub found : (b : List ℕ) (t : ℕ) (l : List ℕ) (at : ℕ) → find_in b t l ≡ Some at → Among b t l at
 found b t l at e = subst (Tells b t l) e (tells b t l)
 
 -- where it finds none, none of them has the type
-pub missing : (b : List ℕ) (t : ℕ) (l : List ℕ) → find_in b t l ≡ Nowhere → (at : ℕ) → Among b t l at → ⊥
+pub missing : (b : List ℕ) (t : ℕ) (l : List ℕ) → find_in b t l ≡ None → (at : ℕ) → Among b t l at → ⊥
 missing b t l e = subst (Tells b t l) e (tells b t l)

@@ -16,19 +16,6 @@ pub struct Place {
     pub at: usize,
 }
 
-// What a place leads to: the place of a moment's header and the place to go on from, or no moment more.
-#[derive(Clone, Copy)]
-pub enum Ahead {
-    There(usize, Place),
-    End,
-}
-
-#[derive(Clone, Copy)]
-pub enum Found {
-    At(usize),
-    Nowhere,
-}
-
 // The place from which all moments of the radial are to come.
 pub fn first(b: &[u8]) -> Place
     ensures { result ≡ first_of b.now }
@@ -55,42 +42,42 @@ fn length_at(b: &[u8], at: usize) -> u32
 }
 
 // The next moment from a place on; total on any place, also on one that no step gave.
-pub fn next(b: &[u8], p: Place) -> Ahead
+pub fn next(b: &[u8], p: Place) -> Option<(usize, Place)>
     ensures { result ≡ ahead_of b.now p }
 {
     let at = p.at;
     let todo = p.todo;
     if todo == 0 {
-        return Ahead::End;
+        return None;
     }
     if le::has(b.len(), at, Moment::SIZE) {
         let n = length_at(b, at) as usize;
-        return Ahead::There(
+        return Some((
             at,
             Place {
                 todo: todo - 1,
                 at: at + Moment::SIZE + n,
             },
-        );
+        ));
     }
-    Ahead::End
+    None
 }
 
 // The place of the header of the first moment of type t.
-pub fn find(b: &[u8], t: u32) -> Found
+pub fn find(b: &[u8], t: u32) -> Option<usize>
     ensures { result ≡ find_in b.now t (moments_of b.now) }
 {
     let mut p = first(b);
     loop {
         match next(b, p) {
-            Ahead::There(at, q) => {
+            Some((at, q)) => {
                 if type_at(b, at) == t {
-                    return Found::At(at);
+                    return Some(at);
                 }
                 p = q;
             }
-            Ahead::End => {
-                return Found::Nowhere;
+            None => {
+                return None;
             }
         }
     }

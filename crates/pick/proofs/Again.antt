@@ -8,9 +8,8 @@ use mathlib.Core.Path.{◌≡◌, refl, sym, ap, subst, ◌∙◌}
 use lib.Bits.{bit_and}
 use lib.Dec.{eqb}
 use lib.ListN.{length}
+use Rattle.std.specs.Prelude.{Option, Some, None}
 use Rattle.le.specs.Le.{Bytes}
-use Rattle.reading.specs.declared.Found.{Found}
-use Rattle.reading.specs.declared.Found.TheVariants.{There, Nowhere}
 use Rattle.reading.specs.declared.Stretch.{Stretch}
 use Rattle.reading.specs.Reading.{bytes_of, nth, stretches, told}
 use Rattle.volume.specs.Volume.{VolumeMoment, VolumeRadial, Volume, IsVolume, bytes_of_volume}
@@ -46,18 +45,18 @@ module _ (m w : ℕ) where
     record Meets (s : Stretch) (ss us : List Stretch) : Type 0 where
       before : ℕ
       then : Stretch
-      here : nth ss (suc before) ≡ There s
-      there : nth us (suc before) ≡ There then
-      second : first_empty w g us ≡ There then
+      here : nth ss (suc before) ≡ Some s
+      there : nth us (suc before) ≡ Some then
+      second : first_empty w g us ≡ Some then
 
     -- so it is where s is the first of ss of which both masks leave none, and us are what a pick by m makes of ss
-    meets : {ss us : List Stretch} (bs : List VolumeRadial) (s : Stretch) → Owned f ss bs → Owned g us (map (only_radial m) bs) → first_empty (bit_and m w) f ss ≡ There s → Meets s ss us
+    meets : {ss us : List Stretch} (bs : List VolumeRadial) (s : Stretch) → Owned f ss bs → Owned g us (map (only_radial m) bs) → first_empty (bit_and m w) f ss ≡ Some s → Meets s ss us
     unfolding first_empty nth
     meets [] s none none e = absurd (let z : ◌≡◌ {A = ℕ} 0 1 = cc in omega arith)
     meets (b ∷ bs) s (more {s = i} {ss = ss} x xs) (more {s = j} {ss = us} y ys) e =
         go (empties (bit_and m w) (bytes_of f i)) refl e (meets bs s xs ys)
       where
-        go : (t : Bool) → empties (bit_and m w) (bytes_of f i) ≡ t → cond t (There i) (first_empty (bit_and m w) f ss) ≡ There s → (first_empty (bit_and m w) f ss ≡ There s → Meets s ss us) → Meets s (i ∷ ss) (j ∷ us)
+        go : (t : Bool) → empties (bit_and m w) (bytes_of f i) ≡ t → cond t (Some i) (first_empty (bit_and m w) f ss) ≡ Some s → (first_empty (bit_and m w) f ss ≡ Some s → Meets s ss us) → Meets s (i ∷ ss) (j ∷ us)
         go true d q rest = let k = empties-twice i j b x y ∙ d in record { before = 0; then = j; here = q; there = refl; second = rw k }
         go false d q rest =
             let k = empties-twice i j b x y ∙ d in
@@ -78,7 +77,7 @@ module _ (m w : ℕ) where
     written = volume-picked m v is
 
     -- in it each radial has a moment left that w wants, where no radial is found that has none
-    left-then : IsVolume once → (empty_in w (picked m file) ≡ Nowhere) ↔ AllLeft w once.layers
+    left-then : IsVolume once → (empty_in w (picked m file) ≡ None) ↔ AllLeft w once.layers
     left-then ok =
         let e = ap (empty_in w) written in
         let x = left_is w once ok in
@@ -109,12 +108,12 @@ module _ (m w : ℕ) where
         ap (picked w) written ∙ volume-picked w once ok ∙ ap bytes_of_volume (only-twice m w v) ∙ sym (volume-picked (bit_and m w) v is)
 
     -- where that is refused, the first is, or the second is at the same radial
-    same-refused : (s : Stretch) → empty_in (bit_and m w) file ≡ There s → ((u : Stretch) × (empty_in m file ≡ There u)) ⊎ SameRadial m w file s
+    same-refused : (s : Stretch) → empty_in (bit_and m w) file ≡ Some s → ((u : Stretch) × (empty_in m file ≡ Some u)) ⊎ SameRadial m w file s
     same-refused s e = go (empty_in m file) refl
       where
-        go : (x : Found) → empty_in m file ≡ x → ((u : Stretch) × (empty_in m file ≡ There u)) ⊎ SameRadial m w file s
-        go (There u) d = inl (u, d)
-        go Nowhere d =
+        go : (x : Option Stretch) → empty_in m file ≡ x → ((u : Stretch) × (empty_in m file ≡ Some u)) ⊎ SameRadial m w file s
+        go (Some u) d = inl (u, d)
+        go None d =
             let ok = only-is m v is ((left_is m v is).0 d) in
             let r =
             subst (λ (g : List ℕ). Meets file g s (stretches file) (stretches g)) (sym written)

@@ -8,6 +8,7 @@ use mathlib.Core.Path.{◌≡◌, refl, sym, ap, ap₂, transport, ◌∙◌}
 use lib.Dec.{eqb}
 use lib.IntN.{ℤ}
 use lib.ListN.{length}
+use Rattle.std.specs.Prelude.{Option, Some, None}
 use Rattle.rules.specs.Masks.{bit}
 use Rattle.wedge.specs.declared.Wedge.{Wedge}
 use Rattle.wedge.specs.Wedge.{in_wedge}
@@ -20,8 +21,6 @@ use Rattle.gates.specs.Counting.{counts_of}
 use Rattle.gates.specs.Gates.{kind_of}
 use Rattle.gates.specs.Rows.{Rowed}
 use Rattle.moments.specs.Moments.{data_at}
-use Rattle.reading.specs.declared.Found.{Found}
-use Rattle.reading.specs.declared.Found.TheVariants.{There, Nowhere}
 use Rattle.reading.specs.declared.Stretch.{Stretch}
 use Rattle.reading.specs.Reading.{bytes_of, nth, stretches}
 use Rattle.volume.specs.Volume.{VolumeRadial}
@@ -43,9 +42,9 @@ module _ (f g : List ℕ) (wanted : ℕ) where
   -- ---- two radials, or none
 
   -- in neither file, or b in f and what a pick makes of it in g
-  data Both : Found → Found → Type 0 where
-    neither : Both Nowhere Nowhere
-    both : {s u : Stretch} (b : VolumeRadial) → Owns f s b → Owns g u (only_radial wanted b) → Both (There s) (There u)
+  data Both : Option Stretch → Option Stretch → Type 0 where
+    neither : Both None None
+    both : {s u : Stretch} (b : VolumeRadial) → Owns f s b → Owns g u (only_radial wanted b) → Both (Some s) (Some u)
 
   -- so it is of the n-th, for any n
   nth-both : {ss us : List Stretch} (bs : List VolumeRadial) → Owned f ss bs → Owned g us (map (only_radial wanted) bs) → (n : ℕ) → Both (nth ss n) (nth us n)
@@ -58,7 +57,7 @@ module _ (f g : List ℕ) (wanted : ℕ) where
   -- an answer that looks at a moment's header and data alone is the same for a wanted type
   answer {ℓ} : {X : Type ℓ} (a : List ℕ → Where → X) → a g NoRadial ≡ a f NoRadial → a g NoMoment ≡ a f NoMoment
       → ((s u : Stretch) (p q : ℕ) → moment_at (bytes_of g u) p ≡ moment_at (bytes_of f s) q → data_at (bytes_of g u) p ≡ data_at (bytes_of f s) q → a g (At u p) ≡ a f (At s q))
-      → {x y : Found} → Both x y → (t : ℕ) → bit wanted t ≡ true → a g (in_found g y t) ≡ a f (in_found f x t)
+      → {x y : Option Stretch} → Both x y → (t : ℕ) → bit wanted t ≡ true → a g (in_found g y t) ≡ a f (in_found f x t)
   unfolding in_found in_stretch
   answer a no-radial no-moment one neither t e = no-radial
   answer a no-radial no-moment one (both {s} {u} b m k) t e =
@@ -66,20 +65,20 @@ module _ (f g : List ℕ) (wanted : ℕ) where
       (seen-kept wanted b k.is (bytes_of g u) k.own t m.is (bytes_of f s) m.own e)
 
   -- and so is what a row promises
-  row_same : {x y : Found} → Both x y → (t : ℕ) → bit wanted t ≡ true → (k k' : List ℕ) (h h' : List ℤ) (r : RowAnswer)
+  row_same : {x y : Option Stretch} → Both x y → (t : ℕ) → bit wanted t ≡ true → (k k' : List ℕ) (h h' : List ℤ) (r : RowAnswer)
       → RowTold g (in_found g y t) k h r k' h' ≡ RowTold f (in_found f x t) k h r k' h'
   unfolding RowTold
   row_same p t e k k' h h' r =
       answer (λ l w. RowTold l w k h r k' h') refl refl (λ s u i j m d. ap₂ (λ x l. Rowed (coding_of x) (codes_of x.bin_length l) k h r k' h') m d) p t e
 
   -- g has a radial where f has one
-  number_same : {x y : Found} → Both x y → (radial_told g y).number ≡ (radial_told f x).number
+  number_same : {x y : Option Stretch} → Both x y → (radial_told g y).number ≡ (radial_told f x).number
   unfolding radial_told
   number_same neither = refl
   number_same (both b m k) = refl
 
   -- its header is that of f but for two fields
-  header-kept : (n : ℕ) {x y : Found} → Both x y → nth (stretches f) n ≡ x → nth (stretches g) n ≡ y
+  header-kept : (n : ℕ) {x y : Option Stretch} → Both x y → nth (stretches f) n ≡ x → nth (stretches g) n ≡ y
       → (radial_told g y).header ≡ with_moments (radial_told f x).header (radial_told g y).header.length_of_data (radial_told g y).header.moment_number
   unfolding radial_told
   header-kept n neither here there = refl
@@ -94,7 +93,7 @@ module _ (f g : List ℕ) (wanted : ℕ) where
   none_in u b k t e = ap (in_stretch u) (found_nothing (bytes_of g u) _ (seen_none wanted b k.is (bytes_of g u) k.own t e))
 
   -- so where f has the radial, it is refused by 31
-  nowhere : {x y : Found} → Both x y → (t : ℕ) → bit wanted t ≡ false → (radial_told f x).number ≡ 0 → in_found g y t ≡ NoMoment
+  nowhere : {x y : Option Stretch} → Both x y → (t : ℕ) → bit wanted t ≡ false → (radial_told f x).number ≡ 0 → in_found g y t ≡ NoMoment
   unfolding in_found radial_told
   nowhere neither t e there = absurd (omega arith)
   nowhere (both {u = u} b m k) t e there = none_in u b k t e

@@ -10,6 +10,7 @@ use mathlib.Core.Path.{◌≡◌, refl, sym, ap, ap₂, subst, ◌∙◌}
 use lib.Bits.{bit_and}
 use lib.ListN.{length, take, drop, length-append}
 use lib.Seq.{take_at, drop_at}
+use Rattle.std.specs.Prelude.{Option, Some, None}
 use Rattle.le.specs.Le.{items, part, run}
 use Rattle.le.proofs.Here.{At, here}
 use Rattle.le.proofs.Laws.{part-take}
@@ -23,8 +24,6 @@ use Rattle.site.proofs.Trips as site-trip
 use Rattle.task.specs.declared.Task.{Task}
 use Rattle.task.specs.Task.{task_bytes}
 use Rattle.task.proofs.Trips as task-trip
-use Rattle.reading.specs.declared.Found.{Found}
-use Rattle.reading.specs.declared.Found.TheVariants.{There, Nowhere}
 use Rattle.reading.specs.declared.Stretch.{Stretch}
 use Rattle.reading.specs.Reading.{bytes_of}
 use Rattle.volume.specs.InPlace.{cut_block, task_block}
@@ -42,7 +41,7 @@ use Rattle.pick.proofs.Owned.{Owned, none, more, flat, flat_map, owned, run-flat
 -- ---- what is found
 
 -- nothing is found where neither the first is, nor one of the others
-neither : {X Y : Type 0} (t : Bool) (s : Stretch) (x : Found) → ((t ≡ true) ↔ X) → ((x ≡ Nowhere) ↔ Y) → (cond t (There s) x ≡ Nowhere) ↔ ((X → ⊥) × Y)
+neither : {X Y : Type 0} (t : Bool) (s : Stretch) (x : Option Stretch) → ((t ≡ true) ↔ X) → ((x ≡ None) ↔ Y) → (cond t (Some s) x ≡ None) ↔ ((X → ⊥) × Y)
 neither true s x i r = (λ e. absurd (let z : ◌≡◌ {A = ℕ} 0 1 = cc in omega arith), λ y. absurd (y.0 (i.0 refl)))
 neither false s x i r = (λ e. (λ y. let q = i.1 y in let z : ◌≡◌ {A = ℕ} 0 1 = cc in omega arith, r.0 e), λ y. r.1 y.1)
 
@@ -95,7 +94,7 @@ module _ (wanted : ℕ) where
   radials-picked (more {b = b} o os) = ap₂ (λ (x xs : List ℕ). x ++ xs) (ap (picked_radial wanted) o.own ∙ radial-picked wanted b o.is) (radials-picked os)
 
   -- each has a moment left where none is found that would have none
-  first-left : {f : List ℕ} {ss : List Stretch} {bs : List VolumeRadial} → Owned f ss bs → (first_empty wanted f ss ≡ Nowhere) ↔ SomeLeft wanted bs
+  first-left : {f : List ℕ} {ss : List Stretch} {bs : List VolumeRadial} → Owned f ss bs → (first_empty wanted f ss ≡ None) ↔ SomeLeft wanted bs
   unfolding first_empty
   first-left none = (λ e. tt, λ e. refl)
   first-left {f} (more {s} {b = b} o os) =
@@ -136,7 +135,7 @@ module _ (wanted : ℕ) where
         ap₂ (λ (x y : List ℕ). x ++ y) (ap₂ (λ (x y : List ℕ). x ++ y) (ahead-is v is.headed) cuts) radials
 
     -- no radial is found that would have no moment left where each has one
-    pub left_is : (empty_in wanted file ≡ Nowhere) ↔ AllLeft wanted v.layers
+    pub left_is : (empty_in wanted file ≡ None) ↔ AllLeft wanted v.layers
     left_is =
         let e = ap (first_empty wanted file) (means.reads v is).radials in
         let x = first-left (owned v is) in

@@ -7,13 +7,10 @@ use mathlib.Core.Path.{◌≡◌, refl, sym, ap, subst, ◌∙◌}
 use borrow.Author.Tests.{eq-eqb, eqb-true, eqb-false, ne_eqb}
 use lib.Dec.{eqb}
 use lib.ListN.{length}
+use Rattle.std.specs.Prelude.{Option, Some, None}
 use Rattle.rules.specs.Masks.{bit}
 use Rattle.moment.specs.Moment.{moment_at}
-use Rattle.moments.specs.declared.Found.TheVariants.{At, Nowhere}
 use Rattle.moments.specs.Moments.{find_in, moments_of}
-use Rattle.reading.specs.declared.Found as radial
-use Rattle.reading.specs.declared.Found.TheVariants.{There}
-use Rattle.reading.specs.declared.Found.TheVariants as radials
 use Rattle.reading.specs.declared.Stretch.{Stretch}
 use Rattle.reading.specs.Reading.{bytes_of, nth, stretches}
 use Rattle.ask.specs.Answers.{moment_told, radial_told}
@@ -27,13 +24,13 @@ use Rattle.pick.proofs.Bits.{bit-none}
 
 module _ (wanted : ℕ) (b : List ℕ) where
   -- where none is wanted, none of a wanted type is found
-  none_found : (ats : List ℕ) → length (wanted_in wanted b ats) ≡ 0 → (t : ℕ) → bit wanted t ≡ true → find_in b t ats ≡ Nowhere
+  none_found : (ats : List ℕ) → length (wanted_in wanted b ats) ≡ 0 → (t : ℕ) → bit wanted t ≡ true → find_in b t ats ≡ None
   unfolding wanted_in find_in
   none_found [] e t w = refl
   none_found (at ∷ ats) e t w = go (bit wanted (moment_at b at).data_type) refl e (λ r. none_found ats r t w)
     where
       go : (x : Bool) → bit wanted (moment_at b at).data_type ≡ x → length (cond x (at ∷ wanted_in wanted b ats) (wanted_in wanted b ats)) ≡ 0
-          → (length (wanted_in wanted b ats) ≡ 0 → find_in b t ats ≡ Nowhere) → cond (eqb (moment_at b at).data_type t) (At at) (find_in b t ats) ≡ Nowhere
+          → (length (wanted_in wanted b ats) ≡ 0 → find_in b t ats ≡ None) → cond (eqb (moment_at b at).data_type t) (Some at) (find_in b t ats) ≡ None
       go true d r rest = absurd (omega arith)
       go false d r rest =
           rw (ne_eqb (moment_at b at).data_type t (λ same. let z = sym d ∙ ap (bit wanted) same ∙ w in let q : ◌≡◌ {A = ℕ} 0 1 = cc in omega arith)) (rest r)
@@ -43,14 +40,14 @@ module _ (wanted : ℕ) (b : List ℕ) where
     type : ℕ
     is : bit wanted type ≡ true
     place : ℕ
-    there : find_in b type ats ≡ At place
+    there : find_in b type ats ≡ Some place
 
   some-found : (ats : List ℕ) → (length (wanted_in wanted b ats) ≡ 0 → ⊥) → Wanted ats
   unfolding wanted_in find_in
   some-found [] h = absurd (h refl)
   some-found (at ∷ ats) h = go (bit wanted (moment_at b at).data_type) refl h (λ r. some-found ats r)
     where
-      skip : (t p : ℕ) → find_in b t ats ≡ At p → (x : Bool) → (q : ℕ) × (cond x (At at) (find_in b t ats) ≡ At q)
+      skip : (t p : ℕ) → find_in b t ats ≡ Some p → (x : Bool) → (q : ℕ) × (cond x (Some at) (find_in b t ats) ≡ Some q)
       skip t p e true = (at, refl)
       skip t p e false = (p, e)
 
@@ -66,11 +63,11 @@ module _ (wanted : ℕ) (b : List ℕ) where
 
 module _ (wanted : ℕ) (f : List ℕ) where
   -- one that would have no moment left, and one that would have some
-  none_told : (s : Stretch) → empties wanted (bytes_of f s) ≡ true → (t : ℕ) → bit wanted t ≡ true → (moment_told f (in_found f (There s) t)).number ≡ 31
+  none_told : (s : Stretch) → empties wanted (bytes_of f s) ≡ true → (t : ℕ) → bit wanted t ≡ true → (moment_told f (in_found f (Some s) t)).number ≡ 31
   unfolding in_found in_stretch moment_told
   none_told s e t w = rw (none_found wanted (bytes_of f s) (moments_of (bytes_of f s)) (eqb-true _ 0 e) t w)
 
-  some-told : (s : Stretch) → empties wanted (bytes_of f s) ≡ false → (t : ℕ) × ((bit wanted t ≡ true) × ((moment_told f (in_found f (There s) t)).number ≡ 0))
+  some-told : (s : Stretch) → empties wanted (bytes_of f s) ≡ false → (t : ℕ) × ((bit wanted t ≡ true) × ((moment_told f (in_found f (Some s) t)).number ≡ 0))
   unfolding in_found in_stretch moment_told
   some-told s e = let w = some-found wanted (bytes_of f s) (moments_of (bytes_of f s)) (eqb-false _ 0 e) in (w.type, (w.is, rw w.there))
 
@@ -80,18 +77,18 @@ module _ (wanted : ℕ) (f : List ℕ) where
 
   record FirstOf (ss : List Stretch) (s : Stretch) : Type 0 where
     before : ℕ
-    is : nth ss (suc before) ≡ There s
+    is : nth ss (suc before) ≡ Some s
     empty : empties wanted (bytes_of f s) ≡ true
     others : (k : ℕ) → 1 ≤ k → k ≤ before → Some ss k
 
-  first_of : (ss : List Stretch) (s : Stretch) → first_empty wanted f ss ≡ There s → FirstOf ss s
+  first_of : (ss : List Stretch) (s : Stretch) → first_empty wanted f ss ≡ Some s → FirstOf ss s
   unfolding first_empty nth Some
   first_of [] s e = absurd (let z : ◌≡◌ {A = ℕ} 0 1 = cc in omega arith)
   first_of (x ∷ ss) s e = go (empties wanted (bytes_of f x)) refl e (first_of ss s)
     where
-      go : (b : Bool) → empties wanted (bytes_of f x) ≡ b → cond b (There x) (first_empty wanted f ss) ≡ There s
-          → (first_empty wanted f ss ≡ There s → FirstOf ss s) → FirstOf (x ∷ ss) s
-      go true d r rest = let q : x ≡ s = cc in record { before = 0; is = ap There q; empty = ap (λ (y : Stretch). empties wanted (bytes_of f y)) (sym q) ∙ d; others = λ k low high. absurd (omega arith) }
+      go : (b : Bool) → empties wanted (bytes_of f x) ≡ b → cond b (Some x) (first_empty wanted f ss) ≡ Some s
+          → (first_empty wanted f ss ≡ Some s → FirstOf ss s) → FirstOf (x ∷ ss) s
+      go true d r rest = let q : x ≡ s = cc in record { before = 0; is = ap Some q; empty = ap (λ (y : Stretch). empties wanted (bytes_of f y)) (sym q) ∙ d; others = λ k low high. absurd (omega arith) }
       go false d r rest =
           let n = rest r in
           record { before = suc n.before; is = n.is; empty = n.empty; others = later n.before d n.others }
@@ -101,13 +98,13 @@ module _ (wanted : ℕ) (f : List ℕ) where
           later m d o (suc zero) low high = some-told x d
           later m d o (suc (suc k)) low high = o (suc k) (omega arith) (omega arith)
 
-  each_of : (ss : List Stretch) → first_empty wanted f ss ≡ radials.Nowhere → (n : ℕ) → (radial_told f (nth ss n)).number ≡ 0 → Some ss n
+  each_of : (ss : List Stretch) → first_empty wanted f ss ≡ None → (n : ℕ) → (radial_told f (nth ss n)).number ≡ 0 → Some ss n
   unfolding first_empty nth Some radial_told
   each_of [] e n h = absurd (omega arith)
   each_of (x ∷ ss) e n h = go (empties wanted (bytes_of f x)) refl e n h (each_of ss)
     where
-      go : (b : Bool) → empties wanted (bytes_of f x) ≡ b → cond b (There x) (first_empty wanted f ss) ≡ radials.Nowhere → (n : ℕ) → (radial_told f (nth (x ∷ ss) n)).number ≡ 0
-          → (first_empty wanted f ss ≡ radials.Nowhere → (m : ℕ) → (radial_told f (nth ss m)).number ≡ 0 → Some ss m) → Some (x ∷ ss) n
+      go : (b : Bool) → empties wanted (bytes_of f x) ≡ b → cond b (Some x) (first_empty wanted f ss) ≡ None → (n : ℕ) → (radial_told f (nth (x ∷ ss) n)).number ≡ 0
+          → (first_empty wanted f ss ≡ None → (m : ℕ) → (radial_told f (nth ss m)).number ≡ 0 → Some ss m) → Some (x ∷ ss) n
       go true d r n k rest = absurd (let z : ◌≡◌ {A = ℕ} 0 1 = cc in omega arith)
       go false d r zero k rest = absurd (omega arith)
       go false d r (suc zero) k rest = some-told x d
@@ -123,7 +120,7 @@ module _ (wanted : ℕ) (f : List ℕ) where
               number = suc n.before;
               is = n.is;
               place = rw n.is;
-              none = λ t w. subst (λ (x : radial.Found). (moment_told f (in_found f x t)).number ≡ 31) (sym n.is) (none_told s n.empty t w);
+              none = λ t w. subst (λ (x : Option Stretch). (moment_told f (in_found f x t)).number ≡ 31) (sym n.is) (none_told s n.empty t w);
               before = λ k low high. n.others k low (omega arith);
             };
         each = each_of (stretches f);

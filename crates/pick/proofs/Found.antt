@@ -8,6 +8,7 @@ use mathlib.Core.List.{List, [], ◌∷◌, ◌++◌, append_assoc, map}
 use mathlib.Core.Path.{◌≡◌, refl, sym, ap, ◌∙◌}
 use lib.Dec.{eqb}
 use lib.ListN.{length-map}
+use Rattle.std.specs.Prelude.{Option, Some, None}
 use Rattle.le.specs.Le.{run}
 use Rattle.rules.specs.Masks.{bit}
 use Rattle.cut.specs.declared.Cut.{Cut}
@@ -15,8 +16,6 @@ use Rattle.moment.specs.declared.Moment.{Moment}
 use Rattle.moment.specs.Moment.{moment_at, moment_bytes}
 use Rattle.radial.specs.declared.Radial.{Radial}
 use Rattle.radial.specs.Radial.{radial_at, radial_bytes}
-use Rattle.moments.specs.declared.Found.{Found}
-use Rattle.moments.specs.declared.Found.TheVariants.{At, Nowhere}
 use Rattle.moments.specs.Moments.{moments_of, find_in, data_at}
 use Rattle.volume.specs.Volume.{VolumeMoment, VolumeRadial, MomentsOk, bytes_of_moment, bytes_of_radial}
 use Rattle.writer.specs.Block.{bytes_of}
@@ -38,19 +37,19 @@ abbrev pub seen : List ℕ → ℕ → Seen
 seen b t = said moment nothing b (find_in b t (moments_of b))
 
 -- what is told of two searches, each by the header and the data of the moment that it finds, is the same where these are
-module _ {ℓ} {X : Type ℓ} (b c : List ℕ) (v w : Found → X) (none : v Nowhere ≡ w Nowhere) (one : (p q : ℕ) → moment_at c p ≡ moment_at b q → data_at c p ≡ data_at b q → v (At p) ≡ w (At q)) where
-  pub told-alike : (x y : Found) → said moment nothing c x ≡ said moment nothing b y → v x ≡ w y
+module _ {ℓ} {X : Type ℓ} (b c : List ℕ) (v w : Option ℕ → X) (none : v None ≡ w None) (one : (p q : ℕ) → moment_at c p ≡ moment_at b q → data_at c p ≡ data_at b q → v (Some p) ≡ w (Some q)) where
+  pub told-alike : (x y : Option ℕ) → said moment nothing c x ≡ said moment nothing b y → v x ≡ w y
   unfolding said
-  told-alike Nowhere Nowhere e = none
-  told-alike Nowhere (At q) e = absurd (let z : ◌≡◌ {A = ℕ} 0 1 = cc in omega arith)
-  told-alike (At p) Nowhere e = absurd (let z : ◌≡◌ {A = ℕ} 0 1 = cc in omega arith)
-  told-alike (At p) (At q) e = one p q (cc) (cc)
+  told-alike None None e = none
+  told-alike None (Some q) e = absurd (let z : ◌≡◌ {A = ℕ} 0 1 = cc in omega arith)
+  told-alike (Some p) None e = absurd (let z : ◌≡◌ {A = ℕ} 0 1 = cc in omega arith)
+  told-alike (Some p) (Some q) e = one p q (cc) (cc)
 
 -- a search in which nothing is seen finds none
-pub found_nothing : (b : List ℕ) (x : Found) → said moment nothing b x ≡ nothing → x ≡ Nowhere
+pub found_nothing : (b : List ℕ) (x : Option ℕ) → said moment nothing b x ≡ nothing → x ≡ None
 unfolding said
-found_nothing b Nowhere e = refl
-found_nothing b (At p) e = absurd (let z : ◌≡◌ {A = ℕ} 0 1 = cc in omega arith)
+found_nothing b None e = refl
+found_nothing b (Some p) e = absurd (let z : ◌≡◌ {A = ℕ} 0 1 = cc in omega arith)
 
 -- ---- a radial's moments, as they are put
 

@@ -6,10 +6,10 @@ use mathlib.Core.Bool.{Bool, true, false, cond}
 use mathlib.Core.List.{List, [], ◌∷◌, ◌++◌, append-nil}
 use mathlib.Core.Path.{◌≡◌, refl, sym, ap, ap₂, subst, ◌∙◌}
 use lib.ListN.{length}
+use Rattle.std.specs.Prelude.{Some}
 use Rattle.le.specs.Le.{run}
 use Rattle.le.proofs.Laws.{run-append}
 use Rattle.gates.specs.Telling.{refused}
-use Rattle.reading.specs.declared.Found.TheVariants.{There}
 use Rattle.reading.specs.declared.Stretch.{Stretch}
 use Rattle.reading.specs.declared.step.Step.TheVariants.{Refused}
 use Rattle.reading.specs.Growth.{Same}
@@ -51,12 +51,12 @@ module _ (A B : List ℕ) (wanted : ℕ) where
   run-same (s ∷ ss) h = ap₂ (λ (x y : List ℕ). x ++ y) (ap (picked_radial wanted) h.0) (run-same ss h.1)
 
   -- and the first that would have no moment left is still the first, whatever follows
-  first-same : (ss later : List Stretch) (s : Stretch) → Same A B ss → first_empty wanted A ss ≡ There s → first_empty wanted B (ss ++ later) ≡ There s
+  first-same : (ss later : List Stretch) (s : Stretch) → Same A B ss → first_empty wanted A ss ≡ Some s → first_empty wanted B (ss ++ later) ≡ Some s
   unfolding first_empty
   first-same [] later s h e = absurd (let z : ◌≡◌ {A = ℕ} 0 1 = cc in omega arith)
   first-same (x ∷ ss) later s h e = rw h.0 (go (empties wanted (bytes_of A x)) (first-same ss later s h.1) e)
     where
-      go : (t : Bool) → (first_empty wanted A ss ≡ There s → first_empty wanted B (ss ++ later) ≡ There s) → cond t (There x) (first_empty wanted A ss) ≡ There s → cond t (There x) (first_empty wanted B (ss ++ later)) ≡ There s
+      go : (t : Bool) → (first_empty wanted A ss ≡ Some s → first_empty wanted B (ss ++ later) ≡ Some s) → cond t (Some x) (first_empty wanted A ss) ≡ Some s → cond t (Some x) (first_empty wanted B (ss ++ later)) ≡ Some s
       go true rest d = d
       go false rest d = rest d
 

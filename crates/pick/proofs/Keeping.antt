@@ -8,11 +8,10 @@ use mathlib.Core.Path.{◌≡◌, refl, sym, ap, subst, ◌∙◌}
 use borrow.Author.Tests.{leb-true}
 use lib.Dec.{leb}
 use lib.ListN.{length, take, drop, length-append, length-take, length-drop}
+use Rattle.std.specs.Prelude.{Option, Some, None}
 use Rattle.le.specs.Le.{run}
 use Rattle.rules.specs.Masks.{bit}
 use Rattle.moment.specs.Moment.{moment_at}
-use Rattle.moments.specs.declared.Ahead.{Ahead}
-use Rattle.moments.specs.declared.Ahead.TheVariants.{There, End}
 use Rattle.moments.specs.declared.Place.{Place}
 use Rattle.moments.specs.Moments.{after, ahead_from, ahead_of, first_of, moments_from, moments_at}
 use Rattle.moments.proofs.Laws.{there, end}
@@ -28,19 +27,19 @@ module _ (wanted : ℕ) (b : List ℕ) where
   still_run p = run (moment_run b) (still p)
 
   -- the next moment stands behind the one that a step finds
-  next-at : (p : Place) (at : ℕ) (q : Place) → ahead_of b p ≡ There at q → q.at ≡ after b at
+  next-at : (p : Place) (at : ℕ) (q : Place) → ahead_of b p ≡ Some (at, q) → q.at ≡ after b at
   unfolding ahead_from
   next-at p at q e = go p.todo p.at e
     where
-      Ends : Ahead → Type 0
-      Ends (There a r) = r.at ≡ after b a
-      Ends End = Unit {0}
+      Ends : Option (ℕ × Place) → Type 0
+      Ends (Some (a, r)) = r.at ≡ after b a
+      Ends None = Unit {0}
 
-      on : (k a : ℕ) (t : Bool) → Ends (cond t (There a (record { todo = k; at = after b a })) End)
+      on : (k a : ℕ) (t : Bool) → Ends (cond t (Some (a, (record { todo = k; at = after b a }))) None)
       on k a true = refl
       on k a false = tt
 
-      go : (k a : ℕ) → ahead_from k b a ≡ There at q → q.at ≡ after b at
+      go : (k a : ℕ) → ahead_from k b a ≡ Some (at, q) → q.at ≡ after b at
       go zero a d = absurd (let z : ◌≡◌ {A = ℕ} 0 1 = cc in omega arith)
       go (suc k) a d = subst Ends d (on k a (leb (a + 32) (length b)))
 
@@ -51,7 +50,7 @@ module _ (wanted : ℕ) (b : List ℕ) where
     pub front : still_run p ≡ m ++ still_run q
     pub long : length (still_run p) ≡ length m + length (still_run q)
 
-  pub gets : (p : Place) (at : ℕ) (q : Place) (m : List ℕ) → ahead_of b p ≡ There at q → bit wanted (moment_at b at).data_type ≡ true → m ≡ take (q.at - at) (drop at b) → Gets p q m
+  pub gets : (p : Place) (at : ℕ) (q : Place) (m : List ℕ) → ahead_of b p ≡ Some (at, q) → bit wanted (moment_at b at).data_type ≡ true → m ≡ take (q.at - at) (drop at b) → Gets p q m
   unfolding wanted_in run
   gets p at q m e k d =
       let n = next-at p at q e in
@@ -62,12 +61,12 @@ module _ (wanted : ℕ) (b : List ℕ) where
       record { fewer = g.fewer; count = ap length w; front = f; long = ap length f ∙ length-append m (still_run q) }
 
   -- one that finds another moment
-  pub skips : (p : Place) (at : ℕ) (q : Place) → ahead_of b p ≡ There at q → bit wanted (moment_at b at).data_type ≡ false → still p ≡ still q
+  pub skips : (p : Place) (at : ℕ) (q : Place) → ahead_of b p ≡ Some (at, q) → bit wanted (moment_at b at).data_type ≡ false → still p ≡ still q
   unfolding wanted_in
   skips p at q e k = rw ((there b p at q e).more, k)
 
   -- and one that finds none
-  pub none-still : (p : Place) → ahead_of b p ≡ End → still p ≡ []
+  pub none-still : (p : Place) → ahead_of b p ≡ None → still p ≡ []
   unfolding wanted_in
   none-still p e = rw (end b p e)
 

@@ -9,12 +9,11 @@ use mathlib.Core.Path.{◌≡◌, refl, sym, ap, ◌∙◌}
 use borrow.Author.Tests.{le-leb, leb-true}
 use lib.Dec.{leb}
 use lib.ListN.{length, length-append}
+use Rattle.std.specs.Prelude.{Option, Some, None}
 use Rattle.le.specs.Le.{run}
 use Rattle.le.proofs.Tests.{both}
 use Rattle.walk.specs.declared.due.Walk.{Walk}
 use Rattle.walk.specs.Due.{at_start, is_end}
-use Rattle.reading.specs.declared.Found.{Found}
-use Rattle.reading.specs.declared.Found.TheVariants.{There, Nowhere}
 use Rattle.reading.specs.declared.Stretch.{Stretch}
 use Rattle.reading.specs.Reading.{bytes_of, ending_told, ending, fuel, last, stop, stretches, told, trace}
 use Rattle.reading.proofs.Exactly.{step-done}
@@ -53,7 +52,7 @@ is-complete f e = same-is (told f) (0 ∷ []) e
 
 module _ (wanted : ℕ) (f : List ℕ) where
   -- behind the walk w these are still to come
-  pub record Planned (w : Walk) (radials size : ℕ) (empty : Found) : Type 0 where
+  pub record Planned (w : Walk) (radials size : ℕ) (empty : Option Stretch) : Type 0 where
     pub few : radials ≤ size
     pub stops : stop f ≡ last (fuel f) f w
     pub placed : AllPlaced f (trace (fuel f) f w)
@@ -61,7 +60,7 @@ module _ (wanted : ℕ) (f : List ℕ) where
     pub long : size + length (run (only wanted f) (trace (fuel f) f w)) ≡ length (picked_radials wanted f)
     pub first : or_else empty (first_empty wanted f (trace (fuel f) f w)) ≡ empty_in wanted f
 
-  pub planned-none : (w : Walk) → w ≡ at_start → Planned w 0 0 Nowhere
+  pub planned-none : (w : Walk) → w ≡ at_start → Planned w 0 0 None
   unfolding or_else
   planned-none w e = rw e (record { few = omega arith; stops = refl; placed = all_placed f; many = zero-add _; long = zero-add _; first = refl })
 
@@ -70,19 +69,19 @@ module _ (wanted : ℕ) (f : List ℕ) where
   all_short = let r = row-short wanted f (radials_at f) (stretches f) (row f) (all_placed f) in omega arith
 
   -- the first that would have no moment left, with one more looked at
-  or-next : (b : Bool) (empty : Found) (s : Stretch) (rest : Found) → or_else (or_else empty (cond b (There s) Nowhere)) rest ≡ or_else empty (cond b (There s) rest)
+  or-next : (b : Bool) (empty : Option Stretch) (s : Stretch) (rest : Option Stretch) → or_else (or_else empty (cond b (Some s) None)) rest ≡ or_else empty (cond b (Some s) rest)
   unfolding or_else
-  or-next true Nowhere s rest = refl
-  or-next false Nowhere s rest = refl
-  or-next b (There u) s rest = refl
+  or-next true None s rest = refl
+  or-next false None s rest = refl
+  or-next b (Some u) s rest = refl
 
   -- a further radial
-  pub record Next (w : Walk) (s : Stretch) (n : Walk) (radials size : ℕ) (empty : Found) : Type 0 where
+  pub record Next (w : Walk) (s : Stretch) (n : Walk) (radials size : ℕ) (empty : Option Stretch) : Type 0 where
     pub fits : size + (64 + length (kept_bytes wanted (bytes_of f s))) ≤ length f
     pub few : radials + 1 ≤ length f
-    pub then : Planned n (radials + 1) (size + (64 + length (kept_bytes wanted (bytes_of f s)))) (or_else empty (cond (empties wanted (bytes_of f s)) (There s) Nowhere))
+    pub then : Planned n (radials + 1) (size + (64 + length (kept_bytes wanted (bytes_of f s)))) (or_else empty (cond (empties wanted (bytes_of f s)) (Some s) None))
 
-  pub planned-more : {w : Walk} {s : Stretch} {n : Walk} {radials size : ℕ} {empty : Found} → Planned w radials size empty → Further f w s n → Next w s n radials size empty
+  pub planned-more : {w : Walk} {s : Stretch} {n : Walk} {radials size : ℕ} {empty : Option Stretch} → Planned w radials size empty → Further f w s n → Next w s n radials size empty
   unfolding run first_empty
   planned-more {w} {s} {n} {radials} {size} {empty} p r =
       let ss = trace (fuel f) f n in
@@ -110,20 +109,20 @@ module _ (wanted : ℕ) (f : List ℕ) where
       }
 
   -- no further one
-  pub record Whole (v : Walk) (radials size : ℕ) (empty : Found) : Type 0 where
+  pub record Whole (v : Walk) (radials size : ℕ) (empty : Option Stretch) : Type 0 where
     pub at-stop : v ≡ stop f
     pub all : radials ≡ length (stretches f)
     pub long : size ≡ length (picked_radials wanted f)
     pub first : empty ≡ empty_in wanted f
 
-  pub planned-all : {w v : Walk} {radials size : ℕ} {empty : Found} → Planned w radials size empty → trace (fuel f) f w ≡ [] → last (fuel f) f w ≡ v → Whole v radials size empty
+  pub planned-all : {w v : Walk} {radials size : ℕ} {empty : Option Stretch} → Planned w radials size empty → trace (fuel f) f w ≡ [] → last (fuel f) f w ≡ v → Whole v radials size empty
   unfolding run first_empty or_else
   planned-all {w} {v} {radials} {size} {empty} p e d =
       let many : radials + 0 ≡ length (stretches f) = rw e at p.many in
       let long : size + 0 ≡ length (picked_radials wanted f) = rw e at p.long in
-      let first : or_else empty Nowhere ≡ empty_in wanted f = rw e at p.first in
+      let first : or_else empty None ≡ empty_in wanted f = rw e at p.first in
       record { at-stop = sym (p.stops ∙ d); all = omega arith; long = omega arith; first = sym (none empty) ∙ first }
     where
-      none : (x : Found) → or_else x Nowhere ≡ x
-      none Nowhere = refl
-      none (There s) = refl
+      none : (x : Option Stretch) → or_else x None ≡ x
+      none None = refl
+      none (Some s) = refl

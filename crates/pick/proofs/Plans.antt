@@ -4,9 +4,8 @@ use mathlib.Core.Bool.{Bool, true, false, cond}
 use mathlib.Core.List.{List}
 use mathlib.Core.Path.{◌≡◌, refl, subst}
 use lib.ListN.{length}
+use Rattle.std.specs.Prelude.{Option, Some, None}
 use Rattle.index.specs.Answer.{complete}
-use Rattle.reading.specs.declared.Found.{Found}
-use Rattle.reading.specs.declared.Found.TheVariants.{There, Nowhere}
 use Rattle.reading.specs.declared.Stretch.{Stretch}
 use Rattle.reading.specs.Reading.{stretches}
 use Rattle.pick.specs.declared.plan.Plan.{Plan}
@@ -17,22 +16,22 @@ module _ (wanted : ℕ) (f : List ℕ) where
   -- by the plan
   pub data Says : Plan → Type 0 where
     unfinished : complete f ≡ false → Says Unfinished
-    empty : (s : Stretch) → complete f ≡ true → empty_in wanted f ≡ There s → Says (Empty s.start)
-    fits : complete f ≡ true → empty_in wanted f ≡ Nowhere → Says (Fits (length (stretches f)) (length (picked wanted f)))
+    empty : (s : Stretch) → complete f ≡ true → empty_in wanted f ≡ Some s → Says (Empty s.start)
+    fits : complete f ≡ true → empty_in wanted f ≡ None → Says (Fits (length (stretches f)) (length (picked wanted f)))
 
   pub says : Says (plan_of wanted f)
   unfolding plan_by
   says = go (complete f) refl (empty_in wanted f) refl
     where
-      go : (b : Bool) → complete f ≡ b → (e : Found) → empty_in wanted f ≡ e → Says (cond b (plan_by e (length (stretches f)) (length (picked wanted f))) Unfinished)
+      go : (b : Bool) → complete f ≡ b → (e : Option Stretch) → empty_in wanted f ≡ e → Says (cond b (plan_by e (length (stretches f)) (length (picked wanted f))) Unfinished)
       go false c e d = unfinished c
-      go true c (There s) d = empty s c d
-      go true c Nowhere d = fits c d
+      go true c (Some s) d = empty s c d
+      go true c None d = fits c d
 
   -- it fits
   pub record Fitting (radials size : ℕ) : Type 0 where
     pub whole : complete f ≡ true
-    pub left : empty_in wanted f ≡ Nowhere
+    pub left : empty_in wanted f ≡ None
     pub all : radials ≡ length (stretches f)
     pub long : size ≡ length (picked wanted f)
 
@@ -40,7 +39,7 @@ module _ (wanted : ℕ) (f : List ℕ) where
   pub record Emptied (place : ℕ) : Type 0 where
     pub whole : complete f ≡ true
     pub first : Stretch
-    pub is : empty_in wanted f ≡ There first
+    pub is : empty_in wanted f ≡ Some first
     pub at : place ≡ first.start
 
   abbrev Told : Plan → Type 0

@@ -1,13 +1,11 @@
 -- A volume with the wanted moments only (document 02, #111), block by block; how it is refused; and what the room then holds.
-use Rattle.std.specs.Prelude.{ℕ, ◌+◌, Bool, cond, List, [], ◌∷◌, ◌++◌, ◌≡◌, eqb, leb, length, take}
+use Rattle.std.specs.Prelude.{ℕ, ◌+◌, Bool, cond, List, [], ◌∷◌, ◌++◌, ◌≡◌, eqb, leb, length, take, Option, Some, None}
 use Rattle.std.specs.Int.Bits.{bit_and}
 use Rattle.le.specs.Le.{le, bytes, items, part, patch, run, stored}
 use Rattle.cut.specs.Cut.{cut_size}
 use Rattle.walk.specs.Due.{cut_place}
 use Rattle.gates.specs.Telling.{Telling, refused, answered}
 use Rattle.index.specs.Answer.{complete}
-use Rattle.reading.specs.declared.Found.{Found}
-use Rattle.reading.specs.declared.Found.TheVariants.{There, Nowhere}
 use Rattle.reading.specs.declared.Stretch.{Stretch}
 use Rattle.reading.specs.Reading.{bytes_of, stretches, told}
 use Rattle.mend.specs.Mend.{behind_cut, cut_number}
@@ -46,11 +44,11 @@ abbrev pub empties : ℕ → List ℕ → Bool
 empties wanted b = eqb (length (wanted_of wanted b)) 0
 
 -- the first of some radials that would
-unfoldable pub first_empty : ℕ → List ℕ → List Stretch → Found
-first_empty wanted f [] = Nowhere
-first_empty wanted f (s ∷ ss) = cond (empties wanted (bytes_of f s)) (There s) (first_empty wanted f ss)
+unfoldable pub first_empty : ℕ → List ℕ → List Stretch → Option Stretch
+first_empty wanted f [] = None
+first_empty wanted f (s ∷ ss) = cond (empties wanted (bytes_of f s)) (Some s) (first_empty wanted f ss)
 
-abbrev pub empty_in : ℕ → List ℕ → Found
+abbrev pub empty_in : ℕ → List ℕ → Option Stretch
 empty_in wanted f = first_empty wanted f (stretches f)
 
 -- the length of the written volume; or the refusal's number and place
@@ -59,14 +57,14 @@ told_picked (Written size) = answered size
 told_picked (Refused number place) = refused number place
 
 -- of a complete file: 60 at the first radial that would have no moment left, then 33 where the room of n bytes is too short, at place 0
-unfoldable pub answer_by : ℕ → ℕ → Found → Telling ℕ
-answer_by size n (There s) = refused 60 s.start
-answer_by size n Nowhere = cond (leb size n) (answered size) (refused 33 0)
+unfoldable pub answer_by : ℕ → ℕ → Option Stretch → Telling ℕ
+answer_by size n (Some s) = refused 60 s.start
+answer_by size n None = cond (leb size n) (answered size) (refused 33 0)
 
 -- what a room then holds: at its front the volume, where it fits; refused, what it held
-unfoldable pub room_by : List ℕ → List ℕ → Found → List ℕ
-room_by volume room (There s) = room
-room_by volume room Nowhere = stored (length volume) room 0 volume
+unfoldable pub room_by : List ℕ → List ℕ → Option Stretch → List ℕ
+room_by volume room (Some s) = room
+room_by volume room None = stored (length volume) room 0 volume
 
 -- before that 36, at place 0, where the file is not complete
 abbrev pub answer_of : ℕ → List ℕ → ℕ → Telling ℕ
@@ -82,13 +80,13 @@ pub record Picks (f : List ℕ) (wanted : ℕ) (before : List ℕ) (r : Picked) 
 -- ---- what the private functions promise
 
 -- what was found, or else something
-unfoldable pub or_else : Found → Found → Found
-or_else Nowhere other = other
-or_else (There s) other = There s
+unfoldable pub or_else : Option Stretch → Option Stretch → Option Stretch
+or_else None other = other
+or_else (Some s) other = Some s
 
-unfoldable pub plan_by : Found → ℕ → ℕ → Plan
-plan_by (There s) radials size = Empty s.start
-plan_by Nowhere radials size = Fits radials size
+unfoldable pub plan_by : Option Stretch → ℕ → ℕ → Plan
+plan_by (Some s) radials size = Empty s.start
+plan_by None radials size = Fits radials size
 
 abbrev pub plan_of : ℕ → List ℕ → Plan
 plan_of wanted f = cond (complete f) (plan_by (empty_in wanted f) (length (stretches f)) (length (picked wanted f))) Unfinished

@@ -1,5 +1,5 @@
 -- What picking makes of a complete volume (document 02, #111): a complete volume, with every answer on a wanted type and none on another.
-use Rattle.std.specs.Prelude.{ℕ, ◌-◌, ◌^◌, ◌≤◌, ◌<◌, true, false, cond, List, ◌↔◌, ◌⊎◌, ◌≡◌, ℤ, length, take}
+use Rattle.std.specs.Prelude.{ℕ, ◌-◌, ◌^◌, ◌≤◌, ◌<◌, true, false, cond, List, ◌↔◌, ◌⊎◌, ◌≡◌, ℤ, length, take, Some, None}
 use Rattle.std.specs.Int.Bits.{bit_and}
 use Rattle.rules.specs.Masks.{bit}
 use Rattle.wedge.specs.declared.Wedge.{Wedge}
@@ -7,7 +7,6 @@ use Rattle.wedge.specs.Wedge.{wedge_ok}
 use Rattle.gates.specs.declared.RowAnswer.{RowAnswer}
 use Rattle.gates.specs.Telling.{refused}
 use Rattle.walk.specs.Due.{cut_place}
-use Rattle.reading.specs.declared.Found.TheVariants.{There, Nowhere}
 use Rattle.reading.specs.declared.Stretch.{Stretch}
 use Rattle.reading.specs.Reading.{nth, stop, stretches}
 use Rattle.volume.specs.InPlace.{cut_block, task_block}
@@ -24,7 +23,7 @@ use Rattle.pick.specs.Pick.{Complete, empty_in, picked}
 -- where a pick is taken, whatever the room: the file is complete, and no radial would have no moment left
 pub record Taken (wanted : ℕ) (f : List ℕ) : Type 0 where
   pub complete : Complete f
-  pub left : empty_in wanted f ≡ Nowhere
+  pub left : empty_in wanted f ≡ None
 
 -- ---- which radials would have no moment left, by the questions that are asked of f
 
@@ -36,14 +35,14 @@ SomeWanted wanted f n = (t : ℕ) × ((bit wanted t ≡ true) × ((moment_told f
 -- of the radial
 pub record First (wanted : ℕ) (f : List ℕ) (s : Stretch) : Type 0 where
   pub number : ℕ
-  pub is : nth (stretches f) number ≡ There s
+  pub is : nth (stretches f) number ≡ Some s
   pub place : (radial_of_file f number).place ≡ s.start
   pub none : (t : ℕ) → bit wanted t ≡ true → (moment_told f (where_is f number t)).number ≡ 31
   pub before : (k : ℕ) → 1 ≤ k → k < number → SomeWanted wanted f k
 
 pub record ByQuestions (wanted : ℕ) (f : List ℕ) : Type 0 where
-  pub first : (s : Stretch) → empty_in wanted f ≡ There s → First wanted f s
-  pub each : empty_in wanted f ≡ Nowhere → (n : ℕ) → (radial_of_file f n).number ≡ 0 → SomeWanted wanted f n
+  pub first : (s : Stretch) → empty_in wanted f ≡ Some s → First wanted f s
+  pub each : empty_in wanted f ≡ None → (n : ℕ) → (radial_of_file f n).number ≡ 0 → SomeWanted wanted f n
 
 -- ---- one radial; g is the picked volume
 
@@ -99,9 +98,9 @@ pub record Picking (wanted : ℕ) (f : List ℕ) : Type 0 where
 pub record SameRadial (m w : ℕ) (f : List ℕ) (s : Stretch) : Type 0 where
   pub number : ℕ
   pub then : Stretch
-  pub here : nth (stretches f) number ≡ There s
-  pub there : nth (stretches (picked m f)) number ≡ There then
-  pub second : empty_in w (picked m f) ≡ There then
+  pub here : nth (stretches f) number ≡ Some s
+  pub there : nth (stretches (picked m f)) number ≡ Some then
+  pub second : empty_in w (picked m f) ≡ Some then
 
 pub record Twice (m w : ℕ) (f : List ℕ) : Type 0 where
   -- both steps are taken exactly where the common bits are
@@ -109,7 +108,7 @@ pub record Twice (m w : ℕ) (f : List ℕ) : Type 0 where
   -- and then the same bytes are written
   pub same : Taken m f → picked w (picked m f) ≡ picked (bit_and m w) f
   -- where the common bits are refused by 60, the first step is, or the second is at the same radial
-  pub refused : Complete f → (s : Stretch) → empty_in (bit_and m w) f ≡ There s → ((u : Stretch) × (empty_in m f ≡ There u)) ⊎ SameRadial m w f s
+  pub refused : Complete f → (s : Stretch) → empty_in (bit_and m w) f ≡ Some s → ((u : Stretch) × (empty_in m f ≡ Some u)) ⊎ SameRadial m w f s
 
 -- ---- a mask in which every cut's mask lies
 

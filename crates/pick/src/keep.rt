@@ -5,7 +5,6 @@ ghost use Rattle.moment.specs.Moment.{moment_at};
 ghost use Rattle.pick.specs.Keep.{kept_of};
 
 use moment::Moment;
-use moments::Ahead;
 use reading::Stretch;
 use rules::masks;
 
@@ -45,14 +44,14 @@ pub(crate) fn kept_of(b: &[u8], wanted: u64) -> Kept
     let mut bytes = 0;
     loop {
         match moments::next(b, p) {
-            Ahead::There(at, q) => {
+            Some((at, q)) => {
                 if wants(b, at, wanted) {
                     count += 1;
                     bytes += moment(b, at, q.at).len();
                 }
                 p = q;
             }
-            Ahead::End => {
+            None => {
                 return Kept {
                     moments: count,
                     bytes,

@@ -11,7 +11,6 @@ ghost use Rattle.pick.specs.Pick.{Complete, cut_blocks, picked, picked_cut, pick
 use crate::keep::{Kept, moment, wants};
 use cut::Cut;
 use generic::Generic;
-use moments::Ahead;
 use radial::Radial;
 use site::Site;
 use task::Task;
@@ -47,7 +46,7 @@ fn lay_moments(b: &[u8], wanted: u64, room: &mut [u8], to: usize) -> Kept
     let mut end = to;
     loop {
         match moments::next(b, p) {
-            Ahead::There(at, q) => {
+            Some((at, q)) => {
                 if wants(b, at, wanted) {
                     let m = moment(b, at, q.at);
                     le::put(room, end, m);
@@ -56,7 +55,7 @@ fn lay_moments(b: &[u8], wanted: u64, room: &mut [u8], to: usize) -> Kept
                 }
                 p = q;
             }
-            Ahead::End => {
+            None => {
                 return Kept {
                     moments: count,
                     bytes: end - to,
@@ -74,9 +73,8 @@ fn lay_radial(b: &[u8], wanted: u64, room: &mut [u8], to: usize) -> usize
     ensures room_after { room.new ≡ patch room.old to (picked_radial wanted b.now) }
 {
     // By way of an array: so short a run from slice to slice is copied byte by byte.
-    let mut head = [0u8; 64];
-    le::copy_out(b, 0, &mut head);
-    le::put(room, to, &head);
+    let head: [u8; Radial::SIZE] = le::bytes_at(b, 0);
+    le::put_bytes(room, to, head);
     let kept = lay_moments(b, wanted, room, to + Radial::SIZE);
     le::put_u32(
         room,

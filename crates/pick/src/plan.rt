@@ -1,13 +1,12 @@
 // What is to be written, or why nothing is: found in one pass over the blocks.
-ghost use Rattle.std.specs.Prelude.{◌&&◌, cond, ◌≡◌, eqb, leb, length};
-ghost use Rattle.reading.specs.declared.Found.TheVariants.{There, Nowhere};
+ghost use Rattle.std.specs.Prelude.{◌&&◌, cond, ◌≡◌, eqb, leb, length, Some, None};
 ghost use Rattle.walk.specs.Due.{is_end};
 ghost use Rattle.pick.specs.Pick.{or_else, plan_by, plan_of};
 
 use crate::keep::kept_of;
 use crate::lay::first_radial;
 use radial::Radial;
-use reading::{Found, Onward, Stretch};
+use reading::{Onward, Stretch};
 use walk::due::{Walk, is_end};
 
 #[derive(Clone, Copy)]
@@ -21,14 +20,14 @@ pub(crate) enum Plan {
 }
 
 // The first radial without a wanted moment: the one that was found, or else this, where it has none.
-fn first_empty(found: Found, moments: usize, s: Stretch) -> Found
-    ensures { result ≡ or_else found (cond (eqb moments 0) (There s) Nowhere) }
+fn first_empty(found: Option<Stretch>, moments: usize, s: Stretch) -> Option<Stretch>
+    ensures { result ≡ or_else found (cond (eqb moments 0) (Some s) None) }
 {
     match found {
-        Found::There(_) => found,
-        Found::Nowhere => {
+        Some(_) => found,
+        None => {
             if moments == 0 {
-                return Found::There(s);
+                return Some(s);
             }
             found
         }
@@ -47,12 +46,12 @@ fn is_complete(file: &[u8], stop: Walk) -> bool
 }
 
 // What is to be done with a complete file, by the first radial that has no wanted moment.
-fn plan_by(empty: Found, radials: usize, size: usize) -> Plan
+fn plan_by(empty: Option<Stretch>, radials: usize, size: usize) -> Plan
     ensures { result ≡ plan_by empty radials size }
 {
     match empty {
-        Found::There(s) => Plan::Empty(s.start),
-        Found::Nowhere => Plan::Fits { radials, size },
+        Some(s) => Plan::Empty(s.start),
+        None => Plan::Fits { radials, size },
     }
 }
 
@@ -62,7 +61,7 @@ pub(crate) fn plan_of(file: &[u8], wanted: u64) -> Plan
     let mut w = Walk::begin();
     let mut radials = 0;
     let mut size = 0;
-    let mut empty = Found::Nowhere;
+    let mut empty = None;
     loop {
         match reading::advance(file, w) {
             Onward::Whole(s, n) => {

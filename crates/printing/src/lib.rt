@@ -6,7 +6,7 @@ ghost use Rattle.std.specs.Prelude.{◌≡◌, ◌≤◌, IfOk, nat_abs, length,
 ghost use Rattle.printing.specs.Sum.{mixed_of, sum_from};
 
 use gates::Counts;
-use listing::{Cursor, Line, Next};
+use listing::{Cursor, Line};
 use reading::{Reading, Verdict};
 use std::io;
 use std::io::Read;
@@ -178,7 +178,7 @@ fn print_line(out: &impl Print, line: Line) -> io::Result<()> {
 // Every whole radial and its moments, a line each.
 pub fn print_lines(out: &impl Print, file: &[u8]) -> io::Result<()> {
     let mut c = Cursor::begin();
-    while let Next::There(line, next) = listing::next_line(file, c) {
+    while let Some((line, next)) = listing::next_line(file, c) {
         print_line(out, line)?;
         c = next;
     }

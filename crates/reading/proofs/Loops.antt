@@ -5,10 +5,10 @@ use lib.ListN.{length}
 use mathlib.Core.Path.{◌≡◌, refl, ap, subst, ◌∙◌}
 use mathlib.Core.Bool.{Bool, true, false}
 use mathlib.Core.List.{List, [], ◌∷◌}
+use Rattle.std.specs.Prelude.{Some, None}
 use Rattle.walk.specs.declared.due.Walk.{Walk}
 use Rattle.reading.specs.declared.step.Step.TheVariants.{Took}
 use Rattle.reading.specs.declared.Stretch.{Stretch}
-use Rattle.reading.specs.declared.Found.TheVariants.{There, Nowhere}
 use Rattle.reading.specs.declared.Onward.{Onward}
 use Rattle.reading.specs.declared.Onward.TheVariants.{Whole, Stopped}
 use Rattle.walk.specs.Due.{ends_radial}
@@ -77,7 +77,7 @@ stopped f w v e = (subst (Says f w) e (says f w)).1
 
 -- ---- find: the first of the stretches still to come, a later one, or none
 
-pub found_first : (l r : List Stretch) (s : Stretch) (k : ℕ) → l ≡ s ∷ r → k ≡ 0 → nth l (suc k) ≡ There s
+pub found_first : (l r : List Stretch) (s : Stretch) (k : ℕ) → l ≡ s ∷ r → k ≡ 0 → nth l (suc k) ≡ Some s
 unfolding nth
 found_first l r s k e q = rw (e, q)
 
@@ -86,11 +86,11 @@ unfolding nth
 found-later l r s zero e q = absurd (q refl)
 found-later l r s (suc k) e q = rw e (ap (λ (j : ℕ). nth r (suc j)) (omega arith))
 
-pub found_none : (l : List Stretch) (k : ℕ) → l ≡ [] → nth l k ≡ Nowhere
+pub found_none : (l : List Stretch) (k : ℕ) → l ≡ [] → nth l k ≡ None
 unfolding nth
 found_none l k e = rw e
 
-pub found-zero : (l : List Stretch) (k : ℕ) → k ≡ 0 → nth l k ≡ Nowhere
+pub found-zero : (l : List Stretch) (k : ℕ) → k ≡ 0 → nth l k ≡ None
 unfolding nth
 found-zero [] k e = refl
 found-zero (s ∷ r) k e = rw e

@@ -6,6 +6,7 @@ use mathlib.Core.Path.{◌≡◌, refl, sym, ap, subst, ◌∙◌}
 use mathlib.Core.Bool.{Bool, true, false}
 use mathlib.Core.List.{List, [], ◌∷◌}
 use lib.ListN.{length, take}
+use Rattle.std.specs.Prelude.{Some}
 use Rattle.le.proofs.Laws.{part-take}
 use Rattle.radial.specs.Radial.{radial_of, radial_at}
 use Rattle.walk.specs.declared.due.Due.{Due}
@@ -13,7 +14,6 @@ use Rattle.walk.specs.declared.due.Due.TheVariants as due
 use Rattle.walk.specs.declared.due.Walk.{Walk}
 use Rattle.walk.specs.Due.{size_at, ends_radial, at_start}
 use Rattle.walk.specs.After.{after_data}
-use Rattle.reading.specs.declared.Found.TheVariants.{There}
 use Rattle.reading.specs.declared.Stretch.{Stretch}
 use Rattle.reading.specs.declared.step.Step.TheVariants.{Took}
 use Rattle.reading.specs.Step.{take_generic, take_site, take_task, take_cut, take_radial, take_moment, take_data, block_at, step_of}
@@ -80,13 +80,13 @@ module _ (f : List ℕ) where
       (λ w m l e r s h. let b = (taken f w m e).block in
       number_step (ends_radial w.due w.rest.todo) w m l (counted w m s e) (number w s h) (r (steady-on w.due _ w m s b) (headed-on w.due w m h b)))
 
-  nth-sequenced : (l : List Stretch) (k n : ℕ) (s : Stretch) → Sequenced k l → nth l n ≡ There s → (radial_at f s.start).sequence ≡ k + n
+  nth-sequenced : (l : List Stretch) (k n : ℕ) (s : Stretch) → Sequenced k l → nth l n ≡ Some s → (radial_at f s.start).sequence ≡ k + n
   unfolding nth
   nth-sequenced [] k n s h e = absurd (let z : ◌≡◌ {A = ℕ} 0 1 = cc in omega arith)
   nth-sequenced (x ∷ l) k zero s h e = absurd (let z : ◌≡◌ {A = ℕ} 0 1 = cc in omega arith)
   nth-sequenced (x ∷ l) k (suc zero) s h e = let z : x ≡ s = cc in subst (λ (y : Stretch). (radial_at f y.start).sequence ≡ k + 1) z (h.0 ∙ omega arith)
   nth-sequenced (x ∷ l) k (suc (suc n)) s h e = nth-sequenced l (suc k) (suc n) s h.1 e ∙ omega arith
 
-  pub nth-sequence : (n : ℕ) (s : Stretch) → nth (stretches f) n ≡ There s → (radial_at f s.start).sequence ≡ n
+  pub nth-sequence : (n : ℕ) (s : Stretch) → nth (stretches f) n ≡ Some s → (radial_at f s.start).sequence ≡ n
   unfolding Steady Headed
   nth-sequence n s e = nth-sequenced (stretches f) 0 n s (sequenced-on (fuel f) at_start tt tt) e ∙ omega arith

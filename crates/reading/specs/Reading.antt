@@ -1,6 +1,6 @@
 -- A reading: steps from the start while blocks are taken. Everything told of a file is told of this (document 01, "What
 -- reading tells").
-use Rattle.std.specs.Prelude.{ℕ, zero, suc, ◌+◌, ◌-◌, Bool, true, false, List, [], ◌∷◌, ◌≡◌, length, take, drop}
+use Rattle.std.specs.Prelude.{ℕ, zero, suc, ◌+◌, ◌-◌, Bool, true, false, List, [], ◌∷◌, ◌≡◌, length, take, drop, Option, Some, None}
 use Rattle.walk.specs.declared.due.Walk.{Walk}
 use Rattle.reading.specs.declared.step.Step.{Step}
 use Rattle.reading.specs.declared.step.Step.TheVariants.{Took, Open, Refused, Complete}
@@ -10,8 +10,6 @@ use Rattle.reading.specs.declared.Reading.{Reading}
 use Rattle.reading.specs.declared.Stretch.{Stretch}
 use Rattle.reading.specs.declared.Onward.{Onward}
 use Rattle.reading.specs.declared.Onward.TheVariants.{Whole, Stopped}
-use Rattle.reading.specs.declared.Found.{Found}
-use Rattle.reading.specs.declared.Found.TheVariants as found
 use Rattle.walk.specs.Due.{at_start, ends_radial}
 use Rattle.reading.specs.Step.{step_by, step_of}
 
@@ -129,8 +127,8 @@ abbrev pub advance_of : List ℕ → Walk → Onward
 advance_of f w = walk_on (λ v. Stopped v) on_to (fuel f) f w
 
 -- the stretch with a sequence number, from 1
-unfoldable pub nth : List Stretch → ℕ → Found
-nth [] k = found.Nowhere
-nth (s ∷ r) zero = found.Nowhere
-nth (s ∷ r) (suc zero) = found.There s
+unfoldable pub nth : List Stretch → ℕ → Option Stretch
+nth [] k = None
+nth (s ∷ r) zero = None
+nth (s ∷ r) (suc zero) = Some s
 nth (s ∷ r) (suc (suc k)) = nth r (suc k)

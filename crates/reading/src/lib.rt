@@ -47,12 +47,6 @@ pub enum Onward {
     Stopped(Walk),
 }
 
-#[derive(Clone, Copy)]
-pub enum Found {
-    There(Stretch),
-    Nowhere,
-}
-
 // Radial by radial while they are whole, and what is left block by block. `radial_from` and `by_steps` are called here and
 // in `advance_in`, so that both stay functions of their own: with one caller they would be inlined into `advance`, and each
 // question would take longer.
@@ -168,11 +162,11 @@ fn by_steps(file: &[u8], from: Walk) -> Onward
 }
 
 // The whole radial with a sequence number, from 1.
-pub fn find(file: &[u8], sequence: usize) -> Found
+pub fn find(file: &[u8], sequence: usize) -> Option<Stretch>
     ensures { result ≡ nth (stretches file.now) sequence }
 {
     if sequence == 0 {
-        return Found::Nowhere;
+        return None;
     }
     let mut w = Walk::begin();
     let mut before = sequence - 1;
@@ -180,13 +174,13 @@ pub fn find(file: &[u8], sequence: usize) -> Found
         match advance(file, w) {
             Onward::Whole(stretch, n) => {
                 if before == 0 {
-                    return Found::There(stretch);
+                    return Some(stretch);
                 }
                 before = before - 1;
                 w = n;
             }
             Onward::Stopped(_) => {
-                return Found::Nowhere;
+                return None;
             }
         }
     }

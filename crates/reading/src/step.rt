@@ -13,7 +13,7 @@ use cut::Cut;
 use generic::Generic;
 use moment::Moment;
 use radial::Radial;
-use rules::check::Check;
+use rules::check::Clause;
 use site::Site;
 use task::Task;
 use walk::due::{Due, Walk, cut_place, is_end, size_at};
@@ -32,13 +32,13 @@ pub enum Step {
 }
 
 // A block that keeps its rules is taken.
-pub(crate) fn settle(check: Check, at: usize, next: Walk) -> Step
+pub(crate) fn settle(check: Result<(), Clause>, at: usize, next: Walk) -> Step
     requires { at < 2 ^ 63 }
     ensures { result ≡ settle_of check at next }
 {
     match check {
-        Check::Fine => Step::Took(next),
-        Check::Broken(c) => Step::Refused(c.number, at + (c.place as usize)),
+        Ok(()) => Step::Took(next),
+        Err(c) => Step::Refused(c.number, at + (c.place as usize)),
     }
 }
 

@@ -10,6 +10,7 @@ use mathlib.Core.Path.{◌≡◌, refl, sym, ap, ap₂, ◌∙◌}
 use lib.Dec.{eqb, leb}
 use lib.ListN.{length, take, drop, length-append}
 use lib.Seq.{take_at, drop_at}
+use Rattle.std.specs.Prelude.{Option, Some, None}
 use Rattle.le.specs.Le.{part, run}
 use Rattle.le.proofs.Laws.{part-past, part_in, part-all}
 use Rattle.moment.specs.declared.Moment.{Moment}
@@ -19,8 +20,6 @@ use Rattle.radial.specs.declared.Radial.{Radial}
 use Rattle.radial.specs.Radial.{radial_of, radial_at, radial_bytes, RadialFits}
 use Rattle.radial.proofs.Trips as radial-trip
 use Rattle.gates.specs.Telling.{refused, answered}
-use Rattle.moments.specs.declared.Found.{Found}
-use Rattle.moments.specs.declared.Found.TheVariants.{At, Nowhere}
 use Rattle.moments.specs.Moments.{after, moments_from, moments_of, find_in, data_at}
 use Rattle.reading.specs.declared.Stretch.{Stretch}
 use Rattle.ask.specs.Answers.{gate_in, gate_told, moment_told, told_moment}
@@ -60,9 +59,9 @@ moment-there pre h post fits = ap moment_of (part-there pre (moment_bytes h) pos
 
 -- ---- what is said of a moment that was found
 
-unfoldable pub said : {X : Type 0} → (Moment → List ℕ → X) → X → List ℕ → Found → X
-said say none b (At p) = say (moment_at b p) (data_at b p)
-said say none b Nowhere = none
+unfoldable pub said : {X : Type 0} → (Moment → List ℕ → X) → X → List ℕ → Option ℕ → X
+said say none b (Some p) = say (moment_at b p) (data_at b p)
+said say none b None = none
 
 -- one moment of those from a place on, with the others behind it
 module _ (pre : List ℕ) (p : Pair) (post : List ℕ) (fits : MomentFits p.header) (long : length p.bytes ≡ p.header.length) where
@@ -110,8 +109,8 @@ module _ (pre : List ℕ) (p : Pair) (post : List ℕ) (fits : MomentFits p.head
       ap (λ (x : Bool). cond x (length pre ∷ moments_from k whole (after whole (length pre))) []) within
       ∙ ap (λ (n : ℕ). length pre ∷ moments_from k whole n) next-is
 
-  said-if : {X : Type 0} (say : Moment → List ℕ → X) (none : X) (x : Bool) (y : Found)
-      → said say none whole (cond x (At (length pre)) y) ≡ cond x (say p.header p.bytes) (said say none whole y)
+  said-if : {X : Type 0} (say : Moment → List ℕ → X) (none : X) (x : Bool) (y : Option ℕ)
+      → said say none whole (cond x (Some (length pre)) y) ≡ cond x (say p.header p.bytes) (said say none whole y)
   unfolding said
   said-if say none true y = ap₂ say header_is data_is
   said-if say none false y = refl
@@ -121,7 +120,7 @@ module _ (pre : List ℕ) (p : Pair) (post : List ℕ) (fits : MomentFits p.head
       → said say none whole (find_in whole t (length pre ∷ l)) ≡ cond (eqb p.header.data_type t) (say p.header p.bytes) (said say none whole (find_in whole t l))
   unfolding find_in
   said-first say none t l =
-      ap (λ (h : Moment). said say none whole (cond (eqb h.data_type t) (At (length pre)) (find_in whole t l))) header_is
+      ap (λ (h : Moment). said say none whole (cond (eqb h.data_type t) (Some (length pre)) (find_in whole t l))) header_is
       ∙ said-if say none (eqb p.header.data_type t) (find_in whole t l)
 
 -- ---- all of them
@@ -158,20 +157,20 @@ module _ {X : Type 0} (say : Moment → List ℕ → X) (none : X) where
 
 module _ (r : Radial) (ps : List Pair) (fits : RadialFits r) (pairs : PairsFit ps) (long : PairsLong ps) (k : r.moment_number ≡ length ps)
     (f : List ℕ) (s : Stretch) (own : reading.bytes_of f s ≡ run bytes_of (radial_blocks r ps)) where
-  gate-found : (x : Found) (i : ℕ) → gate_told f (in_stretch s x) i ≡ said (λ h bytes. gate_in h bytes i) (refused 31 0) (reading.bytes_of f s) x
+  gate-found : (x : Option ℕ) (i : ℕ) → gate_told f (in_stretch s x) i ≡ said (λ h bytes. gate_in h bytes i) (refused 31 0) (reading.bytes_of f s) x
   unfolding said gate_told in_stretch
-  gate-found (At p) i = refl
-  gate-found Nowhere i = refl
+  gate-found (Some p) i = refl
+  gate-found None i = refl
 
   pub gates-told : (t i : ℕ) → gate_told f (moment_in f t s) i ≡ gate_among ps t i
   gates-told t i =
       gate-found (find_in (reading.bytes_of f s) t (moments_of (reading.bytes_of f s))) i
       ∙ said-own (λ h bytes. gate_in h bytes i) (refused 31 0) r ps fits pairs long k (reading.bytes_of f s) own t
 
-  moment-found : (x : Found) → told_moment (moment_told f (in_stretch s x)) ≡ said (λ h bytes. answered h) (refused 31 0) (reading.bytes_of f s) x
+  moment-found : (x : Option ℕ) → told_moment (moment_told f (in_stretch s x)) ≡ said (λ h bytes. answered h) (refused 31 0) (reading.bytes_of f s) x
   unfolding said moment_told in_stretch
-  moment-found (At p) = refl
-  moment-found Nowhere = refl
+  moment-found (Some p) = refl
+  moment-found None = refl
 
   pub moments-told : (t : ℕ) → told_moment (moment_told f (moment_in f t s)) ≡ moment_among ps t
   moments-told t =

@@ -6,14 +6,13 @@ use mathlib.Core.List.{List, [], ◌∷◌, ◌++◌, append_assoc}
 use mathlib.Core.Path.{◌≡◌, refl, sym, ap, ap₂, subst⁻¹, ◌∙◌}
 use lib.ListN.{length, take, drop, length-append}
 use lib.Seq.{length-take-le}
+use Rattle.std.specs.Prelude.{Option, Some}
 use Rattle.le.specs.Le.{run}
 use Rattle.radial.specs.declared.Radial.{Radial}
 use Rattle.radial.specs.Radial.{radial_at, radial_bytes, RadialFits}
 use Rattle.walk.specs.declared.due.Due.{Due}
 use Rattle.walk.specs.declared.due.Walk.{Walk}
 use Rattle.walk.specs.Due.{ends_radial}
-use Rattle.reading.specs.declared.Found.{Found}
-use Rattle.reading.specs.declared.Found.TheVariants.{There}
 use Rattle.reading.specs.declared.Stretch.{Stretch}
 use Rattle.reading.specs.Reading.{fuel, stop, trace, stretches, nth}
 use Rattle.reading.specs.Reading as reading
@@ -45,7 +44,7 @@ through-some [] some fits o k t = absurd (omega arith)
 through-some (p ∷ ps) some fits o k t = through p ps fits o k t
 
 -- the stretch behind some others has the number after theirs
-nth-next : (l r : List Stretch) (s : Stretch) → nth (l ++ (s ∷ []) ++ r) (suc (length l)) ≡ There s
+nth-next : (l r : List Stretch) (s : Stretch) → nth (l ++ (s ∷ []) ++ r) (suc (length l)) ≡ Some s
 unfolding nth
 nth-next [] r s = refl
 nth-next (x ∷ l) r s = nth-next l r s
@@ -108,7 +107,7 @@ module _ (o : Outcome) (r : Radial) (ps : List Pair) (fits : RadialFits r) (pair
     start_is : length (written_in o) ≡ o.walk.at
     start_is = length-take-le o.walk.at o.room ((taken-when (radial r) fits o.walk o.room).only head.taken).agree.within
 
-    found : nth (stretches file) (suc (whole_in o)) ≡ There (stretch_put r ps o)
+    found : nth (stretches file) (suc (whole_in o)) ≡ Some (stretch_put r ps o)
     unfolding file
     found =
         let A = written_in (put_radial r ps o) in
@@ -134,13 +133,13 @@ module _ (o : Outcome) (r : Radial) (ps : List Pair) (fits : RadialFits r) (pair
     gate-told : (t i : ℕ) → gate_asked file (suc (whole_in o)) t i ≡ gate_among ps t i
     unfolding in_found
     gate-told t i =
-        ap (λ (x : Found). gate_told file (in_found file x t) i) found
+        ap (λ (x : Option Stretch). gate_told file (in_found file x t) i) found
         ∙ gates-told r ps fits pairs moments.long count file (stretch_put r ps o) own-bytes t i
 
     moment-told : (t : ℕ) → moment_asked file (suc (whole_in o)) t ≡ moment_among ps t
     unfolding in_found
     moment-told t =
-        ap (λ (x : Found). told_moment (moment_told file (in_found file x t))) found
+        ap (λ (x : Option Stretch). told_moment (moment_told file (in_found file x t))) found
         ∙ moments-told r ps fits pairs moments.long count file (stretch_put r ps o) own-bytes t
 
   pub retold : Retold o r ps

@@ -16,7 +16,6 @@ use old::codes::Quantity;
 use old::record::OldRadial;
 use old::{file, headers};
 use radial::Radial;
-use rules::check::Check;
 use site::Site;
 use task::Task;
 use walk::due::{Walk, cut_place};
@@ -188,11 +187,11 @@ pub(crate) fn settle_over(p: Put, cuts: &[u8], room: &[u8], o: OldRadial, at: us
     }
     let w = p.walk;
     match o.check() {
-        Check::Fine => {
+        Ok(()) => {
             let q = settle_radial(w, cuts, room, radial_next(o, w));
             settle_moments(q, room, o)
         }
-        Check::Broken(c) => refused(c.number, at, w),
+        Err(c) => refused(c.number, at, w),
     }
 }
 

@@ -10,31 +10,31 @@ use Rattle.reading.proofs.Radials.{in-file}
 use Rattle.listing.proofs.next_line.Goals as goal
 
 -- what the call found, in the radial's bytes
-found : (c : goal.In-There) → c.next.result ≡ ahead_of (bytes_of c.args.file.now c.args.c.stretch) c.args.c.place
+found : (c : goal.In-Some) → c.next.result ≡ ahead_of (bytes_of c.args.file.now c.args.c.stretch) c.args.c.place
 found c = rw (← c.own-b.ensures) c.next.ensures
 
 pub moment_line-line-requires : goal.moment_line-line-requires
 moment_line-line-requires c =
     let a = c.args in
-    let at = c.in-There.at in
-    let h = (there _ _ _ _ (sym (found c) ∙ c.in-There.is)).within in
+    let at = c.in-Some.at in
+    let h = (there _ _ _ _ (sym (found c) ∙ c.in-Some.is)).within in
     omega (arith, in-file a.file.now a.c.stretch (at + 32) (omega arith) h)
 
 found-2 : (c : goal.After-moment_line-line) → c.next.result ≡ ahead_of (bytes_of c.args.file.now c.args.c.stretch) c.args.c.place
 found-2 c = rw (← c.own-b.ensures) c.next.ensures
 
-pub returns-in-There : goal.returns-in-There
+pub returns-in-Some : goal.returns-in-Some
 unfolding moment_or
-returns-in-There c =
+returns-in-Some c =
     let a = c.args in
     rw (c.moment_line-line.ensures, c.own-b.ensures)
-    (ap (moment_or a.file.now a.c) (sym c.in-There.is ∙ found-2 c))
+    (ap (moment_or a.file.now a.c) (sym c.in-Some.is ∙ found-2 c))
 
 found-3 : (c : goal.After-next_radial) → c.next.result ≡ ahead_of (bytes_of c.args.file.now c.args.c.stretch) c.args.c.place
 found-3 c = rw (← c.own-b.ensures) c.next.ensures
 
-pub returns-in-End : goal.returns-in-End
+pub returns-in-None : goal.returns-in-None
 unfolding moment_or
-returns-in-End c =
+returns-in-None c =
     let a = c.args in
-    c.next_radial.ensures ∙ ap (moment_or a.file.now a.c) (sym c.in-End.is ∙ found-3 c)
+    c.next_radial.ensures ∙ ap (moment_or a.file.now a.c) (sym c.in-None.is ∙ found-3 c)

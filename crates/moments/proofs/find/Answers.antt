@@ -9,14 +9,14 @@ pub loop-at-init : goal.loop-at-init
 loop-at-init c = rw c.first-p.ensures
 
 -- the step that was taken
-step : (c : goal.In-There) → Goes c.args.b.now c.loop-at.p c.in-There.at c.in-There.q
-step c = there _ _ _ _ (sym c.next.ensures ∙ c.in-There.is)
+step : (c : goal.In-Some) → Goes c.args.b.now c.loop-at.p c.in-Some.at c.in-Some.q
+step c = there _ _ _ _ (sym c.next.ensures ∙ c.in-Some.is)
 
 pub type_at-requires : goal.type_at-requires
 type_at-requires c = (step c).within
 
-step-2 : (c : goal.Then-type_at-t) → Goes c.args.b.now c.loop-at.p c.in-There.at c.in-There.q
-step-2 c = there _ _ _ _ (sym c.next.ensures ∙ c.in-There.is)
+step-2 : (c : goal.Then-type_at-t) → Goes c.args.b.now c.loop-at.p c.in-Some.at c.in-Some.q
+step-2 c = there _ _ _ _ (sym c.next.ensures ∙ c.in-Some.is)
 
 pub returns-then-type_at-t : goal.returns-then-type_at-t
 unfolding find_in
@@ -24,8 +24,8 @@ returns-then-type_at-t c =
     sym (c.loop-at.invariant
     ∙ rw ((step-2 c).more, ← c.type_at.ensures, eq-eqb _ _ c.if-type_at-t.true))
 
-step-3 : (c : goal.Else-type_at-t) → Goes c.args.b.now c.loop-at.p c.in-There.at c.in-There.q
-step-3 c = there _ _ _ _ (sym c.next.ensures ∙ c.in-There.is)
+step-3 : (c : goal.Else-type_at-t) → Goes c.args.b.now c.loop-at.p c.in-Some.at c.in-Some.q
+step-3 c = there _ _ _ _ (sym c.next.ensures ∙ c.in-Some.is)
 
 pub loop-at-smaller : goal.loop-at-smaller
 loop-at-smaller c = (step-3 c).fewer
@@ -36,8 +36,8 @@ loop-at-preserved c =
     c.loop-at.invariant
     ∙ rw ((step-3 c).more, ← c.type_at.ensures, ne_eqb _ _ c.if-type_at-t.false)
 
-pub returns-in-End : goal.returns-in-End
+pub returns-in-None : goal.returns-in-None
 unfolding find_in
-returns-in-End c =
-    let none = end _ _ (sym c.next.ensures ∙ c.in-End.is) in
+returns-in-None c =
+    let none = end _ _ (sym c.next.ensures ∙ c.in-None.is) in
     sym (c.loop-at.invariant ∙ rw none)

@@ -7,21 +7,21 @@ use native.Mathlib.Omega.{arith}
 use borrow.Author.Tests.{leb-true}
 use lib.Dec.{leb}
 use lib.ListN.{length}
-use Rattle.moments.specs.declared.Ahead.TheVariants.{There, End}
+use Rattle.std.specs.Prelude.{Some, None}
 use Rattle.moments.specs.Moments.{after, ahead_from}
 use Rattle.moments.proofs.next.Goals as goal
 
 module _ (b : List ℕ) (at : ℕ) where
-  none-due : (k : ℕ) → k ≡ 0 → End ≡ ahead_from k b at
+  none-due : (k : ℕ) → k ≡ 0 → None ≡ ahead_from k b at
   unfolding ahead_from
   none-due k e = rw e
 
-  one-due : (k n : ℕ) → (k ≡ 0 → ⊥) → leb (at + 32) (length b) ≡ true → n ≡ after b at → There at (record { todo = k - 1; at = n }) ≡ ahead_from k b at
+  one-due : (k n : ℕ) → (k ≡ 0 → ⊥) → leb (at + 32) (length b) ≡ true → n ≡ after b at → Some (at, (record { todo = k - 1; at = n })) ≡ ahead_from k b at
   unfolding ahead_from
   one-due zero n some t e = absurd (some refl)
   one-due (suc k) n some t e = let d : suc k - 1 ≡ k = omega arith in rw (t, d, e)
 
-  none_here : (k : ℕ) → leb (at + 32) (length b) ≡ false → End ≡ ahead_from k b at
+  none_here : (k : ℕ) → leb (at + 32) (length b) ≡ false → None ≡ ahead_from k b at
   unfolding ahead_from
   none_here zero t = refl
   none_here (suc k) t = rw t

@@ -1,10 +1,10 @@
 use Rattle.ask.specs.Answers.{radial_told}
 use Rattle.ask.proofs.answers.radial.Goals as goal
 
-pub returns-in-There : goal.returns-in-There
+pub returns-in-Some : goal.returns-in-Some
 unfolding radial_told
-returns-in-There c = rw (← c.find.ensures, c.in-There.is, c.read.ensures)
+returns-in-Some c = rw (← c.find.ensures, c.in-Some.is, c.read.ensures)
 
-pub returns-in-Nowhere : goal.returns-in-Nowhere
+pub returns-in-None : goal.returns-in-None
 unfolding radial_told
-returns-in-Nowhere c = rw (← c.find.ensures, c.in-Nowhere.is, c.read-in-Nowhere.ensures)
+returns-in-None c = rw (← c.find.ensures, c.in-None.is, c.read-in-None.ensures)

@@ -1,11 +1,11 @@
 use Rattle.ask.specs.Places.{in_found}
 use Rattle.ask.proofs.places.find.Goals as goal
 
-pub returns-in-There : goal.returns-in-There
+pub returns-in-Some : goal.returns-in-Some
 unfolding in_found
-returns-in-There c =
-    rw (← c.find.ensures, c.in-There.is, ← c.own.ensures) c.in_stretch.ensures
+returns-in-Some c =
+    rw (← c.find.ensures, c.in-Some.is, ← c.own.ensures) c.in_stretch.ensures
 
-pub returns-in-Nowhere : goal.returns-in-Nowhere
+pub returns-in-None : goal.returns-in-None
 unfolding in_found
-returns-in-Nowhere c = rw (← c.find.ensures, c.in-Nowhere.is)
+returns-in-None c = rw (← c.find.ensures, c.in-None.is)

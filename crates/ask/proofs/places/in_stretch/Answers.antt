@@ -1,10 +1,10 @@
 use Rattle.ask.specs.Places.{in_stretch}
 use Rattle.ask.proofs.places.in_stretch.Goals as goal
 
-pub returns-in-At : goal.returns-in-At
+pub returns-in-Some : goal.returns-in-Some
 unfolding in_stretch
-returns-in-At c = rw (← c.find.ensures, c.in-At.is)
+returns-in-Some c = rw (← c.find.ensures, c.in-Some.is)
 
-pub returns-in-Nowhere : goal.returns-in-Nowhere
+pub returns-in-None : goal.returns-in-None
 unfolding in_stretch
-returns-in-Nowhere c = rw (← c.find.ensures, c.in-Nowhere.is)
+returns-in-None c = rw (← c.find.ensures, c.in-None.is)

@@ -4,11 +4,11 @@ use Prim.Native.Nat.{ℕ, ◌+◌, ◌-◌, ◌<◌, ◌≤◌}
 use native.Mathlib.Omega.{arith}
 use borrow.Author.Tests.{lt-ltb, le-ltb}
 use lib.ListN.{length, length-take, length-drop}
+use Rattle.std.specs.Prelude.{Some, None}
 use Rattle.gates.specs.Codes.{codes_of}
 use Rattle.gates.proofs.Codes.{codes-le}
 use Rattle.moment.specs.declared.Moment.{Moment}
 use Rattle.moment.specs.Moment.{moment_at}
-use Rattle.moments.specs.declared.Found.TheVariants.{At, Nowhere}
 use Rattle.moments.specs.Moments.{data_at, find_in, moments_of}
 use Rattle.moments.proofs.Laws.{all-within, found}
 use Rattle.reading.specs.declared.Stretch.{Stretch}
@@ -18,7 +18,7 @@ use Rattle.citing.specs.Answers.{gates_at, in_moment}
 use Rattle.citing.proofs.answers.in_stretch.Goals as goal
 
 -- a gate that the moment has lies in the file
-in-data : (f : List ℕ) (s : Stretch) (t p i : ℕ) → find_in (bytes_of f s) t (moments_of (bytes_of f s)) ≡ At p → i < gates_at (bytes_of f s) p → s.start + (p + 32 + i) < length f
+in-data : (f : List ℕ) (s : Stretch) (t p i : ℕ) → find_in (bytes_of f s) t (moments_of (bytes_of f s)) ≡ Some p → i < gates_at (bytes_of f s) p → s.start + (p + 32 + i) < length f
 unfolding data_at
 in-data f s t p i e h =
     let b = bytes_of f s in
@@ -30,10 +30,10 @@ in-data f s t p i e h =
 
 -- the moment that was found, and how many gates it has
 abbrev place : goal.Then-i-gates → ℕ
-place c = c.in-At.p
+place c = c.in-Some.p
 
-its-place : (c : goal.Then-i-gates) → find_in (bytes_of c.args.file.now c.args.s) c.args.t (moments_of (bytes_of c.args.file.now c.args.s)) ≡ At (place c)
-its-place c = rw (← c.own-b.ensures) (sym c.find.ensures ∙ c.in-At.is)
+its-place : (c : goal.Then-i-gates) → find_in (bytes_of c.args.file.now c.args.s) c.args.t (moments_of (bytes_of c.args.file.now c.args.s)) ≡ Some (place c)
+its-place c = rw (← c.own-b.ensures) (sym c.find.ensures ∙ c.in-Some.is)
 
 its-gates : (c : goal.Then-i-gates) → c.gates_in-gates.result ≡ gates_at (bytes_of c.args.file.now c.args.s) (place c)
 its-gates c =
@@ -54,10 +54,10 @@ pub cited-requires : goal.cited-requires
 cited-requires c = let k = its-code c c.if-i-gates.true in omega arith
 
 abbrev place-2 : goal.After-cited → ℕ
-place-2 c = c.in-At.p
+place-2 c = c.in-Some.p
 
-its-place-2 : (c : goal.After-cited) → find_in (bytes_of c.args.file.now c.args.s) c.args.t (moments_of (bytes_of c.args.file.now c.args.s)) ≡ At (place-2 c)
-its-place-2 c = rw (← c.own-b.ensures) (sym c.find.ensures ∙ c.in-At.is)
+its-place-2 : (c : goal.After-cited) → find_in (bytes_of c.args.file.now c.args.s) c.args.t (moments_of (bytes_of c.args.file.now c.args.s)) ≡ Some (place-2 c)
+its-place-2 c = rw (← c.own-b.ensures) (sym c.find.ensures ∙ c.in-Some.is)
 
 its-gates-2 : (c : goal.After-cited) → c.gates_in-gates.result ≡ gates_at (bytes_of c.args.file.now c.args.s) (place-2 c)
 its-gates-2 c =
@@ -71,10 +71,10 @@ returns-then-i-gates c =
     rw (its-place-2 c, ← its-gates-2 c, lt-ltb _ _ c.if-i-gates.true) (simp c.cited.ensures)
 
 abbrev place-3 : goal.Else-i-gates → ℕ
-place-3 c = c.in-At.p
+place-3 c = c.in-Some.p
 
-its-place-3 : (c : goal.Else-i-gates) → find_in (bytes_of c.args.file.now c.args.s) c.args.t (moments_of (bytes_of c.args.file.now c.args.s)) ≡ At (place-3 c)
-its-place-3 c = rw (← c.own-b.ensures) (sym c.find.ensures ∙ c.in-At.is)
+its-place-3 : (c : goal.Else-i-gates) → find_in (bytes_of c.args.file.now c.args.s) c.args.t (moments_of (bytes_of c.args.file.now c.args.s)) ≡ Some (place-3 c)
+its-place-3 c = rw (← c.own-b.ensures) (sym c.find.ensures ∙ c.in-Some.is)
 
 its-gates-3 : (c : goal.Else-i-gates) → c.gates_in-gates.result ≡ gates_at (bytes_of c.args.file.now c.args.s) (place-3 c)
 its-gates-3 c =
@@ -87,9 +87,9 @@ unfolding in_moment
 returns-else-i-gates c =
     rw (its-place-3 c, ← its-gates-3 c, le-ltb _ _ c.if-i-gates.false)
 
-pub returns-in-Nowhere : goal.returns-in-Nowhere
+pub returns-in-None : goal.returns-in-None
 unfolding in_moment
-returns-in-Nowhere c =
+returns-in-None c =
     let a = c.args in
-    let e : find_in (bytes_of a.file.now a.s) a.t (moments_of (bytes_of a.file.now a.s)) ≡ Nowhere = rw (← c.own-b.ensures) (sym c.find.ensures ∙ c.in-Nowhere.is) in
+    let e : find_in (bytes_of a.file.now a.s) a.t (moments_of (bytes_of a.file.now a.s)) ≡ None = rw (← c.own-b.ensures) (sym c.find.ensures ∙ c.in-None.is) in
     rw e

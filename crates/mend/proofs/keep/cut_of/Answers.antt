@@ -3,10 +3,10 @@ use mathlib.Core.Path.{sym, ap}
 use Rattle.mend.specs.Kept.{cut_of}
 use Rattle.mend.proofs.keep.cut_of.Goals as goal
 
-pub returns-in-There : goal.returns-in-There
+pub returns-in-Some : goal.returns-in-Some
 unfolding cut_of
-returns-in-There c = sym (ap cut_of c.in-There.is)
+returns-in-Some c = sym (ap cut_of c.in-Some.is)
 
-pub returns-in-Nowhere : goal.returns-in-Nowhere
+pub returns-in-None : goal.returns-in-None
 unfolding cut_of
-returns-in-Nowhere c = sym (ap cut_of c.in-Nowhere.is)
+returns-in-None c = sym (ap cut_of c.in-None.is)

@@ -1,13 +1,13 @@
 -- By the cases of the definition. Assumes nothing.
 use mathlib.Core.Path.{sym, ap}
-use Rattle.reading.specs.declared.Found.{Found}
+use Rattle.std.specs.Prelude.{Option}
 use Rattle.pick.specs.Pick.{plan_by}
 use Rattle.pick.proofs.plan.plan_by.Goals as goal
 
-pub returns-in-There : goal.returns-in-There
+pub returns-in-Some : goal.returns-in-Some
 unfolding plan_by
-returns-in-There c = let a = c.args in sym (ap (λ (x : Found). plan_by x a.radials a.size) c.in-There.is)
+returns-in-Some c = let a = c.args in sym (ap (λ (x : Option Stretch). plan_by x a.radials a.size) c.in-Some.is)
 
-pub returns-in-Nowhere : goal.returns-in-Nowhere
+pub returns-in-None : goal.returns-in-None
 unfolding plan_by
-returns-in-Nowhere c = let a = c.args in sym (ap (λ (x : Found). plan_by x a.radials a.size) c.in-Nowhere.is)
+returns-in-None c = let a = c.args in sym (ap (λ (x : Option Stretch). plan_by x a.radials a.size) c.in-None.is)

@@ -5,10 +5,10 @@ use mathlib.Core.Bool.{◌&&◌}
 use mathlib.Core.Path.{◌≡◌, sym, ap, ap₂, ◌∙◌}
 use lib.Dec.{leb}
 use lib.ListN.{length}
+use Rattle.std.specs.Prelude.{Option}
 use Rattle.le.specs.Le.{Bytes}
 use Rattle.walk.specs.declared.due.Walk.{Walk}
 use Rattle.walk.specs.Due.{is_end}
-use Rattle.reading.specs.declared.Found.{Found}
 use Rattle.reading.specs.Reading.{bytes_of}
 use Rattle.index.specs.Answer.{complete}
 use Rattle.reading.proofs.Loops.{Further, further, no_more, stopped}
@@ -113,7 +113,7 @@ returns-then-is_complete c =
     let whole = all-2 c in
     let l = c.loop-s in
     c.plan_by.ensures
-    ∙ ap (λ (x : Found). plan_by x l.radials (c.first_radial.result + l.size)) whole.first
+    ∙ ap (λ (x : Option Stretch). plan_by x l.radials (c.first_radial.result + l.size)) whole.first
     ∙ ap₂ (plan_by _) whole.all (long-2 c)
     ∙ rw (sym (told-so-2 c) ∙ c.if-is_complete.true)
 
