@@ -1,6 +1,7 @@
 -- What is answered of a radial, a moment, a gate and a row (document 01, "What reading tells"): 30 where there is no such
 -- whole radial, then 31 where it has no such moment, then 32 or 33.
 use Rattle.std.specs.Prelude.{ℕ, ◌%◌, cond, List, [], ◌≡◌, eqb, ltb, ℤ, length, get_or, Option, Some, None}
+use Rattle.reading.specs.declared.Stretch.{Stretch}
 use Rattle.moment.specs.declared.Moment.{Moment}
 use Rattle.moment.specs.Moment.{moment_at}
 use Rattle.radial.specs.Radial.{radial_at}

@@ -6,6 +6,7 @@ use native.Mathlib.Omega.{arith}
 use lib.ListN.{length, take}
 use lib.Seq.{take_all}
 use Rattle.std.specs.Prelude.{Option, Some, None}
+use Rattle.moments.specs.declared.Place.{Place}
 use Rattle.moments.specs.Moments.{moments_from, moments_at, ahead_of}
 use Rattle.moments.proofs.Laws.{there, end}
 use Rattle.reading.specs.declared.Onward.{Onward}

@@ -1,6 +1,7 @@
 -- The listing of a file: its lines as their numbers, and the way from line to line. The places cited are document 01's.
 use Rattle.std.specs.Prelude.{ℕ, zero, suc, ◌+◌, Option, Some, None}
 use mathlib.Core.List.{List, [], ◌∷◌, map, flat_map}
+use Rattle.moments.specs.declared.Place.{Place}
 use Rattle.gates.specs.Codes.{gates_in}
 use Rattle.moment.specs.Moment.{moment_at, moment_size}
 use Rattle.radial.specs.Radial.{radial_at}

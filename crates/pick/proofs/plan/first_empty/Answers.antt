@@ -4,6 +4,7 @@ use mathlib.Core.Path.{sym, ap, ◌∙◌}
 use borrow.Author.Tests.{eq-eqb, ne_eqb}
 use lib.Dec.{eqb}
 use Rattle.std.specs.Prelude.{Option, Some, None}
+use Rattle.reading.specs.declared.Stretch.{Stretch}
 use Rattle.pick.specs.Pick.{or_else}
 use Rattle.pick.proofs.plan.first_empty.Goals as goal
 

@@ -1,6 +1,7 @@
 -- By the cases of the definition. Assumes nothing.
 use mathlib.Core.Path.{sym, ap}
 use Rattle.std.specs.Prelude.{Option}
+use Rattle.reading.specs.declared.Stretch.{Stretch}
 use Rattle.pick.specs.Pick.{plan_by}
 use Rattle.pick.proofs.plan.plan_by.Goals as goal
 

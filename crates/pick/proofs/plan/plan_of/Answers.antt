@@ -6,6 +6,7 @@ use mathlib.Core.Path.{◌≡◌, sym, ap, ap₂, ◌∙◌}
 use lib.Dec.{leb}
 use lib.ListN.{length}
 use Rattle.std.specs.Prelude.{Option}
+use Rattle.reading.specs.declared.Stretch.{Stretch}
 use Rattle.le.specs.Le.{Bytes}
 use Rattle.walk.specs.declared.due.Walk.{Walk}
 use Rattle.walk.specs.Due.{is_end}
