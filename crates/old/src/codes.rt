@@ -60,10 +60,10 @@ fn put_codes_here(room: &mut [u8], at: usize, codes: &[u8])
     ensures { room.new ≡ patch room.old at (run new_bytes codes.now) }
 {
     for (i, v) in codes.iter().enumerate() {
-        let x = code(*v);
+        let [low, high] = code(*v).to_le_bytes();
         let to = at + 2 * i;
-        room[to] = (x % 256) as u8;
-        room[to + 1] = (x / 256 % 256) as u8;
+        room[to] = low;
+        room[to + 1] = high;
     }
 }
 
