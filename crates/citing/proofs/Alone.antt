@@ -1,5 +1,5 @@
 -- The cited bytes alone give a gate's answer: specs/Alone, of every file and question. Assumes nothing.
-use Prim.Native.Nat.{ℕ, ◌+◌, ◌*◌, ◌-◌, ◌%◌, ◌^◌, ◌≤◌, ◌<◌}
+use Prim.Native.Nat.{ℕ, ◌+◌, ◌*◌, ◌%◌, ◌^◌, ◌≤◌, ◌<◌}
 use native.Mathlib.Nat.{mod-eq_of_lt, mul_comm}
 use native.Mathlib.Decide.{dec_lt}
 use native.Mathlib.Omega.{arith}
@@ -23,7 +23,7 @@ use Rattle.moments.proofs.Laws.{all-within, found}
 use Rattle.reading.specs.declared.Stretch.{Stretch}
 use Rattle.reading.specs.Reading.{stretches, nth, bytes_of}
 use Rattle.reading.proofs.Radials.{in-file}
-use Rattle.ask.specs.declared.places.Where.TheVariants.{At, NoRadial, NoMoment}
+use Rattle.ask.specs.declared.places.Where.TheVariants.{At}
 use Rattle.ask.specs.Answers.{coding_of, gate_in, gate_told, radial_told, radial_of_file}
 use Rattle.ask.specs.Growth.{gate_asked}
 use Rattle.ask.specs.Places.{in_found, where_is}
@@ -34,7 +34,7 @@ use Rattle.ask.proofs.Sounding.{own-long, own-moment, own-part, sound}
 use Rattle.citing.specs.declared.answers.GateCited.{GateCited}
 use Rattle.citing.specs.declared.answers.WhyGate.TheVariants as why
 use Rattle.citing.specs.Fields.{field_at, number_of}
-use Rattle.citing.specs.Answers.{answer_of, cited_at, gates_at, in_moment, in_radial, in_stretch, told_why_gate, width_at, why_gate}
+use Rattle.citing.specs.Answers.{answer_of, cited_at, gates_at, in_moment, in_radial, told_why_gate, width_at, why_gate}
 use Rattle.citing.specs.Alone.{formula, by_formula, SameBytes, Stands, Alone, Because}
 
 -- ---- the four ways in which a question can go

@@ -68,9 +68,10 @@ fn in_stretch(file: &[u8], t: u32, i: usize, s: Stretch) -> WhyGate
         Some(p) => {
             let gates = gates::gates_in(moments::data(b, p), Moment::read(b, p).bin_length);
             if i < gates {
-                return WhyGate::Answered(cited(file, start + p, i));
+                WhyGate::Answered(cited(file, start + p, i))
+            } else {
+                WhyGate::NoGate(gates)
             }
-            WhyGate::NoGate(gates)
         }
         None => WhyGate::NoMoment(start),
     }

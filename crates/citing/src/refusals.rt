@@ -86,8 +86,7 @@ fn check_at(file: &[u8], w: Walk) -> Result<(), Clause>
 fn turn(all: u32, todo: usize) -> usize
     ensures { result ≡ all - todo + 1 }
 {
-    let n = all as usize;
-    if n < todo { 1 } else { n - todo + 1 }
+    (all as usize).saturating_sub(todo) + 1
 }
 
 fn named(kind: Due, number: usize, moment: usize, place: usize) -> Block

@@ -1,5 +1,5 @@
 -- A volume with the wanted moments only (document 02, #111), block by block; how it is refused; and what the room then holds.
-use Rattle.std.specs.Prelude.{ℕ, ◌+◌, Bool, cond, List, [], ◌∷◌, ◌++◌, ◌≡◌, eqb, leb, length, take, Option, Some, None}
+use Rattle.std.specs.Prelude.{ℕ, Bool, cond, List, [], ◌∷◌, ◌++◌, ◌≡◌, eqb, leb, length, take, Option, Some, None}
 use Rattle.std.specs.Int.Bits.{bit_and}
 use Rattle.le.specs.Le.{le, bytes, items, part, patch, run, stored}
 use Rattle.cut.specs.Cut.{cut_size}

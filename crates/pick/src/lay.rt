@@ -5,6 +5,7 @@ ghost use Rattle.cut.specs.Cut.{cut_size};
 ghost use Rattle.radial.specs.Radial.{radial_size};
 ghost use Rattle.reading.specs.Reading.{stretches};
 ghost use Rattle.walk.specs.Due.{cut_place};
+ghost use Rattle.mend.specs.Mend.{cut_number};
 ghost use Rattle.pick.specs.Keep.{kept_bytes, kept_of, picked_radial};
 ghost use Rattle.pick.specs.Pick.{Complete, cut_blocks, picked, picked_cut, picked_radials, radials_at};
 
@@ -16,11 +17,18 @@ use site::Site;
 use task::Task;
 use walk::due::cut_place;
 
+// How many cuts there are, as the task says.
+fn cuts(file: &[u8]) -> u32
+    ensures { result ≡ cut_number file.now }
+{
+    le::u32_at(file, Generic::SIZE + Site::SIZE + Task::CUT_NUMBER)
+}
+
 // Where the first radial starts: behind the last cut's block.
 pub(crate) fn first_radial(file: &[u8]) -> usize
     ensures { result ≡ radials_at file.now }
 {
-    cut_place(le::u32_at(file, Generic::SIZE + Site::SIZE + Task::CUT_NUMBER)) + Cut::SIZE
+    cut_place(cuts(file)) + Cut::SIZE
 }
 
 // The cut block at a place, with its mask cut down.
@@ -95,11 +103,8 @@ fn lay_cuts(file: &[u8], wanted: u64, room: &mut [u8])
     requires file_in_bounds { radials_at file.now ≤ length room.old }
     ensures { room.new ≡ patch room.old (cut_place 1) (run (picked_cut wanted) (cut_blocks file.now)) }
 {
-    let behind = first_radial(file);
-    let mut at = cut_place(1);
-    while at < behind {
-        lay_cut(file, wanted, room, at);
-        at += Cut::SIZE;
+    for before in 0..cuts(file) {
+        lay_cut(file, wanted, room, cut_place(before + 1));
     }
 }
 
@@ -111,12 +116,10 @@ fn lay_radials(file: &[u8], wanted: u64, radials: usize, room: &mut [u8])
 {
     let mut at = first_radial(file);
     let mut to = at;
-    let mut left = radials;
-    while 0 < left {
+    for _ in 0..radials {
         let end = at + Radial::SIZE + (le::u32_at(file, at + Radial::LENGTH_OF_DATA) as usize);
         to = lay_radial(&file[at..end], wanted, room, to);
         at = end;
-        left -= 1;
     }
 }
 

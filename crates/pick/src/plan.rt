@@ -35,14 +35,12 @@ fn first_empty(found: Option<Stretch>, moments: usize, s: Stretch) -> Option<Str
 }
 
 // Whether a file is complete, by the walk at which its reading stops: nothing is due, and no byte follows.
+#[tactic(auto, using(std::proofs::lemmas::Bool::Decides::nat_tests))]
 fn is_complete(file: &[u8], stop: Walk) -> bool
     ensures { result ≡ (is_end stop.due && leb (length file.now) stop.at) }
 {
     let due = stop.due;
-    if is_end(due) {
-        return file.len() <= stop.at;
-    }
-    false
+    is_end(due) && file.len() <= stop.at
 }
 
 // What is to be done with a complete file, by the first radial that has no wanted moment.

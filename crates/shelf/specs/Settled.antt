@@ -1,6 +1,6 @@
 -- How the import goes about it: everything is settled first, with nothing asked of the room but how long it is, and then the bytes are
 -- laid down. That this is the import as it is defined (`Import`) is proved; nothing here has to be believed.
-use Rattle.std.specs.Prelude.{ℕ, zero, suc, ◌+◌, ◌*◌, ◌/◌, ◌%◌, ◌^◌, cond, List, [], ◌++◌, length, replicate, ◌==◌}
+use Rattle.std.specs.Prelude.{◌≡◌, ℕ, zero, suc, ◌+◌, ◌*◌, ◌/◌, ◌%◌, ◌^◌, cond, List, [], ◌++◌, length, replicate, ◌==◌}
 use Rattle.le.specs.Le.{run, stored}
 use Rattle.rules.specs.Check.{Check}
 use Rattle.std.specs.Prelude.{Ok, Err}
@@ -33,6 +33,11 @@ use Rattle.shelf.specs.Import.{moments_of}
 unfoldable pub unless : Answer → Put → Put → Put
 unless Taken before next = next
 unless (Refused n p) before next = before
+
+-- what is told of the next block, by what its settling may tell
+abbrev pub Goes : Answer → (Put → Type 0) → Put → Put → Type 0
+Goes Taken Says before q = Says q
+Goes (Refused n p) Says before q = q ≡ before
 
 -- the cut records as they will stand in the volume: behind as many bytes as the first of them
 abbrev pub front : List ℕ → List ℕ

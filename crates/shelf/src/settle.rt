@@ -4,10 +4,10 @@ ghost use Rattle.cut.specs.Cut.{cut_size};
 ghost use Rattle.radial.specs.Radial.{radial_size};
 ghost use Rattle.walk.specs.declared.due.Due.TheVariants as due;
 ghost use Rattle.writer.specs.declared.order.Answer.TheVariants.{Refused};
-ghost use Rattle.writer.specs.Block.{site, task, cut, radial, moment, says_of};
+ghost use Rattle.writer.specs.Block.{radial, says_of};
 ghost use Rattle.writer.specs.Put.{settled_by};
 ghost use Rattle.old.specs.Shelf.{radials_in};
-ghost use Rattle.shelf.specs.Settled.{front, settle_next, settle_data, settle_cuts, settle_rest, settle_ours, counted as counted_of, radial_next, settle_moment, settle_moments, settle_over, settle_first};
+ghost use Rattle.shelf.specs.Settled.{front, Goes, settle_cuts, settle_rest, settle_ours, counted as counted_of, radial_next, settle_moment, settle_moments, settle_over, settle_first};
 
 use cut::Cut;
 use generic::Generic;
@@ -31,69 +31,14 @@ pub(crate) fn refused(number: u32, place: usize, walk: Walk) -> Put
     }
 }
 
-// ---- a block, where nothing is refused yet
-
-fn next_site(p: Put, room: &[u8], r: Site) -> Put
-    ensures { result ≡ settle_next (length room.now) (site r) p }
+// A block, where nothing is refused yet: by how it is settled behind a walk.
+fn next<F: FnOnce(Walk) -> Put + Drop>(p: Put, settle: F) -> Put
+    requires { F.pre settle p.walk }
+    ensures { Goes p.answer (F.post settle p.walk) p result }
 {
     let answer = p.answer;
     match answer {
-        Answer::Taken => {
-            let w = p.walk;
-            settle::site(w, room, r)
-        }
-        Answer::Refused(_, _) => p,
-    }
-}
-
-fn next_task(p: Put, room: &[u8], r: Task) -> Put
-    ensures { result ≡ settle_next (length room.now) (task r) p }
-{
-    let answer = p.answer;
-    match answer {
-        Answer::Taken => {
-            let w = p.walk;
-            settle::task(w, room, r)
-        }
-        Answer::Refused(_, _) => p,
-    }
-}
-
-fn next_cut(p: Put, room: &[u8], r: Cut) -> Put
-    ensures { result ≡ settle_next (length room.now) (cut r) p }
-{
-    let answer = p.answer;
-    match answer {
-        Answer::Taken => {
-            let w = p.walk;
-            settle::cut(w, room, r)
-        }
-        Answer::Refused(_, _) => p,
-    }
-}
-
-fn next_moment(p: Put, room: &[u8], r: Moment) -> Put
-    ensures { result ≡ settle_next (length room.now) (moment r) p }
-{
-    let answer = p.answer;
-    match answer {
-        Answer::Taken => {
-            let w = p.walk;
-            settle::moment(w, room, r)
-        }
-        Answer::Refused(_, _) => p,
-    }
-}
-
-fn next_data(p: Put, room: &[u8], size: usize) -> Put
-    ensures { result ≡ settle_data (length room.now) size p }
-{
-    let answer = p.answer;
-    match answer {
-        Answer::Taken => {
-            let w = p.walk;
-            settle::data(w, room, size)
-        }
+        Answer::Taken => settle(p.walk),
         Answer::Refused(_, _) => p,
     }
 }
@@ -105,7 +50,8 @@ fn settle_cuts(p: Put, cuts: &[u8], room: &[u8]) -> Put
 {
     let mut q = p;
     for k in 0..cuts.len() / Cut::SIZE {
-        q = next_cut(q, room, Cut::read(cuts, k * Cut::SIZE));
+        let r = Cut::read(cuts, k * Cut::SIZE);
+        q = next(q, |w| settle::cut(w, room, r));
     }
     q
 }
@@ -117,7 +63,7 @@ fn settle_rest(p: Put, room: &[u8], size: usize) -> Put
     if size == 0 {
         p
     } else {
-        next_data(p, room, size)
+        next(p, |w| settle::data(w, room, size))
     }
 }
 
@@ -125,8 +71,8 @@ pub(crate) fn settle_ours(g: Generic, s: Site, t: Task, cuts: &[u8], room: &[u8]
     ensures { result ≡ settle_ours g s t cuts.now (length room.now) }
 {
     let p = settle::generic(Walk::begin(), room, g);
-    let p = next_site(p, room, s);
-    let p = next_task(p, room, t);
+    let p = next(p, |w| settle::site(w, room, s));
+    let p = next(p, |w| settle::task(w, room, t));
     let p = settle_cuts(p, cuts, room);
     settle_rest(p, room, cuts.len() % Cut::SIZE)
 }
@@ -163,7 +109,9 @@ fn settle_moment(p: Put, room: &[u8], q: Quantity, o: OldRadial) -> Put
         return p;
     }
     let m = headers::moment_from(q, o.resolution, n);
-    next_data(next_moment(p, room, m), room, 2 * (n as usize))
+    let size = 2 * (n as usize);
+    let p = next(p, |w| settle::moment(w, room, m));
+    next(p, |w| settle::data(w, room, size))
 }
 
 fn settle_moments(p: Put, room: &[u8], o: OldRadial) -> Put

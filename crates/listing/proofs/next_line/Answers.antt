@@ -3,7 +3,7 @@ use mathlib.Core.Path.{◌≡◌, sym, ap, ◌∙◌}
 use mathlib.Core.List.{List}
 use Prim.Native.Nat.{ℕ, ◌+◌}
 use native.Mathlib.Omega.{arith}
-use Rattle.moments.specs.declared.Ahead.{Ahead}
+use Rattle.std.specs.Prelude.{Option}
 use Rattle.moments.specs.declared.Place.{Place}
 use Rattle.moments.specs.Moments.{ahead_of}
 use Rattle.moments.proofs.Laws.{there}

@@ -1,6 +1,5 @@
 -- The loop's walks are those of the reading. Assumes nothing.
 use mathlib.Core.Path.{refl, sym, ◌∙◌}
-use Rattle.reading.specs.Reading.{stop}
 use Rattle.reading.proofs.Loops.{further, stopped}
 use Rattle.citing.proofs.refusals.stop.Goals as goal
 

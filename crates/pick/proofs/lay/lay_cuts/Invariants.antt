@@ -1,10 +1,8 @@
 -- The blocks so far are laid, and the others are still to come. Assumes nothing.
-use Prim.Native.Nat.{◌-◌}
+use Prim.Native.Nat.{◌+◌}
+use Rattle.walk.specs.Due.{cut_place}
 use Rattle.pick.proofs.Turns.{Cuts}
 use Rattle.pick.proofs.lay.lay_cuts.Given as goal
 
-abbrev pub invariant-loop-at : goal.invariant-loop-at
-invariant-loop-at l = Cuts l.wanted l.file l.initial.room l.room l.at
-
-abbrev pub decreases-loop-at : goal.decreases-loop-at
-decreases-loop-at l = l.behind - l.at
+abbrev pub invariant-loop-before : goal.invariant-loop-before
+invariant-loop-before l = Cuts l.wanted l.file l.initial.room l.room (cut_place (l.before + 1))

@@ -1,5 +1,4 @@
 -- What was put, with what is still to come, is what is to be there. Assumes nothing.
-use Prim.Native.Nat.{◌-◌}
 use Rattle.pick.proofs.Filling.{Filling}
 use Rattle.pick.proofs.lay.lay_moments.Given as goal
 

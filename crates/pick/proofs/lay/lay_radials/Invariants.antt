@@ -3,8 +3,5 @@ use Prim.Native.Nat.{◌-◌}
 use Rattle.pick.proofs.Turns.{Radials}
 use Rattle.pick.proofs.lay.lay_radials.Given as goal
 
-abbrev pub invariant-loop-left : goal.invariant-loop-left
-invariant-loop-left l = Radials l.wanted l.file l.initial.room l.room l.at l.to l.left
-
-abbrev pub decreases-loop-left : goal.decreases-loop-left
-decreases-loop-left l = l.left
+abbrev pub invariant-loop : goal.invariant-loop
+invariant-loop l = Radials l.wanted l.file l.initial.room l.room l.at l.to (l.radials - l.counter)

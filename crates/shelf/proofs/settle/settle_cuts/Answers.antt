@@ -1,10 +1,11 @@
 -- `settle_cuts` meets its promise. The loop's invariant: the first k cut records are settled. Assumes nothing.
-use Rattle.std.proofs.Common.{◌≡◌, ℕ, ◌+◌, ◌*◌, ◌/◌, List, length, refl, ap, ◌∙◌, ap₂, add-one, arith}
+use Rattle.std.proofs.Common.{◌≡◌, ℕ, ◌+◌, ◌*◌, ◌/◌, List, length, refl, ap, ◌∙◌, ap₂, add-one, arith, rules}
 use Rattle.cut.specs.declared.Cut.{Cut}
 use Rattle.cut.specs.Cut.{cut_at, cut_size}
 use Rattle.writer.specs.declared.order.Put.{Put}
 use Rattle.writer.specs.Block.{cut}
 use Rattle.shelf.specs.Settled.{settle_next, settle_cuts}
+use Rattle.shelf.proofs.Unless.{goes}
 use Rattle.shelf.proofs.settle.settle_cuts.Goals as goal
 
 module _ (c : List ℕ) (room : ℕ) (p : Put) where
@@ -21,7 +22,8 @@ loop-k-init c = none _ _ _
 
 pub loop-k-preserved : goal.loop-k-preserved
 loop-k-preserved c =
-    turn _ _ _ c.loop-k.k c.loop-k.invariant c.read.ensures c.next_cut-q.ensures
+    let next : c.next-q.result ≡ settle_next (length c.args.room.now) (cut c.read-r.result) c.loop-k.q = goes _ _ _ _ _ c.next-q.ensures (λ y h. search rules) in
+    turn _ _ _ c.loop-k.k c.loop-k.invariant c.read-r.ensures next
 
 pub returns : goal.returns
 returns c =

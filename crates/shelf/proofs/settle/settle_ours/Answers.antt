@@ -1,5 +1,5 @@
 -- `settle_ours` meets its promise: the generic, site and task records, the cut records, and what is left behind these. Assumes nothing.
-use Rattle.std.proofs.Common.{◌≡◌, ℕ, ◌/◌, ◌%◌, true, List, length, refl, ap, ◌∙◌}
+use Rattle.std.proofs.Common.{◌≡◌, ℕ, ◌/◌, ◌%◌, true, List, length, refl, ap, ◌∙◌, rules}
 use Rattle.cut.specs.Cut.{cut_size}
 use Rattle.generic.specs.declared.Generic.{Generic}
 use Rattle.generic.specs.Generic.{generic_size}
@@ -13,7 +13,7 @@ use Rattle.writer.specs.declared.order.Put.{Put}
 use Rattle.writer.specs.Block.{site, task}
 use Rattle.writer.specs.Put.{settled_by}
 use Rattle.shelf.specs.Settled.{settle_next, settle_cuts, settle_rest, fresh, settle_head, settle_ours}
-use Rattle.shelf.proofs.Unless.{goes_on}
+use Rattle.shelf.proofs.Unless.{goes_on, goes}
 use Rattle.shelf.proofs.settle.settle_ours.Goals as goal
 
 module _ (g : Generic) (s : Site) (t : Task) (c : List ℕ) (room : ℕ) {x y z : Put} where
@@ -29,6 +29,8 @@ module _ (g : Generic) (s : Site) (t : Task) (c : List ℕ) (room : ℕ) {x y z 
 pub returns : goal.returns
 returns c =
     let a = c.args in
+    let second : c.next-p.result ≡ settle_next (length a.room.now) (site a.s) c.generic-p.result = goes _ _ _ _ _ c.next-p.ensures (λ y h. search rules) in
+    let third : c.next-p-2.result ≡ settle_next (length a.room.now) (task a.t) c.next-p.result = goes _ _ _ _ _ c.next-p-2.ensures (λ y h. search rules) in
     whole a.g a.s a.t a.cuts.now _
-    (head a.g a.s a.t a.cuts.now _ c.begin.ensures c.generic-p.ensures c.next_site-p.ensures c.next_task-p.ensures)
+    (head a.g a.s a.t a.cuts.now _ c.begin.ensures c.generic-p.ensures second third)
     c.settle_cuts-p.ensures c.settle_rest.ensures
