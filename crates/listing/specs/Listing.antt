@@ -43,7 +43,7 @@ at_begin = record { walk = at_start; stretch = record { start = 0; end = 0; cut 
 
 -- a radial's line, with all its moments to come, or the end ("Numbers to try")
 unfoldable pub radial_or : List ℕ → Onward → Option (Line × Cursor)
-radial_or f (Whole s n) = Some ((radial_line (bytes_of f s) s), (record { walk = n; stretch = s; place = first_of (bytes_of f s) }))
+radial_or f (Whole s n) = Some (radial_line (bytes_of f s) s, record { walk = n; stretch = s; place = first_of (bytes_of f s) })
 radial_or f (Stopped v) = None
 
 -- on to the next whole radial ("Numbers to try")
@@ -53,8 +53,7 @@ radial_next f w = radial_or f (advance_of f w)
 -- the next moment's line, and behind the last of the radial the next radial's ("Numbers to try")
 unfoldable pub moment_or : List ℕ → Cursor → Option (ℕ × Place) → Option (Line × Cursor)
 moment_or f c (Some (at, p)) =
-    Some (moment_line c.stretch.start (bytes_of f c.stretch) at)
-    (record { walk = c.walk; stretch = c.stretch; place = p })
+    Some (moment_line c.stretch.start (bytes_of f c.stretch) at, record { walk = c.walk; stretch = c.stretch; place = p })
 moment_or f c None = radial_next f c.walk
 
 -- the line at a cursor, and the cursor behind it ("Numbers to try")

@@ -29,7 +29,7 @@ moments_of b = moments_at b (first_of b)
 -- the next of k moments from place `at` on, and the place to go on from ("Tiling")
 unfoldable pub ahead_from : ℕ → List ℕ → ℕ → Option (ℕ × Place)
 ahead_from zero b at = None
-ahead_from (suc k) b at = cond (leb (at + moment_size) (length b)) (Some (at, (record { todo = k; at = after b at }))) None
+ahead_from (suc k) b at = cond (leb (at + moment_size) (length b)) (Some (at, record { todo = k; at = after b at })) None
 
 -- the next of the moments still to come ("Tiling")
 abbrev pub ahead_of : List ℕ → Place → Option (ℕ × Place)
