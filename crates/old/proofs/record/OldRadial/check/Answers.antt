@@ -17,17 +17,4 @@ returns-in_err-clauses-2 c = rw (← c.mark_ok.ensures, ← c.rule.ensures, c.in
 
 pub returns : goal.returns
 unfolding old_check
-<<<<<<< HEAD
 returns c = rw (← c.mark_ok.ensures, ← c.rule.ensures, c.in_ok-rule.was, ← c.time_breaks.ensures, ← c.clauses.ensures, c.in_ok-clauses.was, ← c.counts_breaks.ensures, ← c.clauses-2.ensures, c.in_ok-clauses-2.was, ← c.resolution_ok.ensures, ← c.rule-2.ensures)
-=======
-returns c = rw (
-  c.also.ensures,
-  c.resolution_ok.ensures,
-  c.also_clauses-v-2.ensures,
-  c.counts_breaks.ensures,
-  c.also_clauses-v.ensures,
-  c.time_breaks.ensures,
-  c.also-v.ensures,
-  c.mark_ok.ensures,
-)
->>>>>>> 1fa96c28d65d6bd1682c9055d95de8def4bbaa8c
