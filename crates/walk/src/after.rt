@@ -1,19 +1,12 @@
 // The walk after a block that was taken. The caller says where the block ended.
-ghost use Rattle.std.specs.Prelude.{◌≡◌, ◌-◌, ◌+◌};
+ghost use Rattle.std.specs.Prelude.{◌≡◌};
 ghost use Rattle.walk.specs.Due.{due_if};
 ghost use Rattle.walk.specs.After.{after_generic, after_site, after_task, after_cut, after_radial, after_moment, after_data, closes_cut};
 
-use crate::due::{Due, Plan, Present, Rest, Walk};
+use crate::due::{Count, Due, Plan, Present, Rest, Walk};
 use moment::Moment;
 use radial::Radial;
 use rules::{masks, states};
-
-// a less b, and 0 where b is more.
-fn less(a: usize, b: usize) -> usize
-    ensures { result ≡ a - b }
-{
-    if a < b { 0 } else { a - b }
-}
 
 fn due_if(b: bool, x: Due, y: Due) -> Due
     ensures { result ≡ due_if b x y }
@@ -24,74 +17,52 @@ fn due_if(b: bool, x: Due, y: Due) -> Due
 pub fn generic(w: Walk, end: usize) -> Walk
     ensures { result ≡ after_generic w end }
 {
-    let plan = w.plan;
-    let count = w.count;
-    let present = w.present;
-    let rest = w.rest;
     Walk {
         due: Due::Site,
         at: end,
-        plan,
-        count,
-        present,
-        rest,
+        ..w
     }
 }
 
 pub fn site(w: Walk, end: usize) -> Walk
     ensures { result ≡ after_site w end }
 {
-    let plan = w.plan;
-    let count = w.count;
-    let present = w.present;
-    let rest = w.rest;
     Walk {
         due: Due::Task,
         at: end,
-        plan,
-        count,
-        present,
-        rest,
+        ..w
     }
 }
 
 pub fn task(scan_type: u32, cuts: u32, w: Walk, end: usize) -> Walk
     ensures { result ≡ after_task scan_type cuts w end }
 {
-    let count = w.count;
-    let present = w.present;
     Walk {
         due: Due::Cut,
         at: end,
         plan: Plan { scan_type, cuts },
-        count,
-        present,
         rest: Rest {
             todo: cuts as usize,
             left: 0,
             seen: 0,
             length: 0,
         },
+        ..w
     }
 }
 
 pub fn cut(w: Walk, end: usize) -> Walk
     ensures { result ≡ after_cut w end }
 {
-    let plan = w.plan;
-    let mut count = w.count;
-    let present = w.present;
-    let mut rest = w.rest;
-    let due = due_if(rest.todo <= 1, Due::Radial, Due::Cut);
-    count.cut = 1;
-    rest.todo = less(rest.todo, 1);
     Walk {
-        due,
+        due: due_if(w.rest.todo <= 1, Due::Radial, Due::Cut),
         at: end,
-        plan,
-        count,
-        present,
-        rest,
+        count: Count { cut: 1, ..w.count },
+        rest: Rest {
+            todo: w.rest.todo.saturating_sub(1),
+            ..w.rest
+        },
+        ..w
     }
 }
 
@@ -99,14 +70,13 @@ pub fn cut(w: Walk, end: usize) -> Walk
 pub fn radial(r: Radial, mask: u64, sizes: u64, w: Walk, end: usize) -> Walk
     ensures { result ≡ after_radial r mask sizes w end }
 {
-    let plan = w.plan;
-    let mut count = w.count;
-    count.in_cut = r.radial_number as usize;
     Walk {
         due: Due::Moment,
         at: end,
-        plan,
-        count,
+        count: Count {
+            in_cut: r.radial_number as usize,
+            ..w.count
+        },
         present: Present {
             start: w.at,
             state: r.state,
@@ -120,32 +90,24 @@ pub fn radial(r: Radial, mask: u64, sizes: u64, w: Walk, end: usize) -> Walk
             seen: 0,
             length: 0,
         },
+        ..w
     }
 }
 
 pub fn moment(r: Moment, w: Walk, end: usize) -> Walk
     ensures { result ≡ after_moment r w end }
 {
-    let plan = w.plan;
-    let count = w.count;
-    let present = w.present;
-    let rest = w.rest;
     let length = r.length as usize;
-    let todo = less(rest.todo, 1);
-    let left = less(rest.left, Moment::SIZE + length);
-    let seen = masks::with_bit(rest.seen, r.data_type);
     Walk {
         due: Due::Data,
         at: end,
-        plan,
-        count,
-        present,
         rest: Rest {
-            todo,
-            left,
-            seen,
+            todo: w.rest.todo.saturating_sub(1),
+            left: w.rest.left.saturating_sub(Moment::SIZE + length),
+            seen: masks::with_bit(w.rest.seen, r.data_type),
             length,
         },
+        ..w
     }
 }
 
@@ -160,49 +122,42 @@ pub(crate) fn closes_cut(w: Walk) -> bool
 pub fn data(w: Walk, end: usize) -> Walk
     ensures { result ≡ after_data w end }
 {
-    let plan = w.plan;
-    let mut count = w.count;
-    let present = w.present;
-    let rest = w.rest;
-    if 0 < rest.todo {
+    if 0 < w.rest.todo {
         return Walk {
             due: Due::Moment,
             at: end,
-            plan,
-            count,
-            present,
-            rest,
+            ..w
         };
     }
-    count.whole = present.sequence;
-    if closes_cut(w) {
-        count.in_cut = 0;
-        if count.cut < plan.cuts {
-            count.cut = count.cut + 1;
-            return Walk {
-                due: Due::Radial,
-                at: end,
-                plan,
-                count,
-                present,
-                rest,
-            };
-        }
+    let whole = w.present.sequence;
+    if !closes_cut(w) {
         return Walk {
-            due: Due::Nothing,
+            due: Due::Radial,
             at: end,
-            plan,
-            count,
-            present,
-            rest,
+            count: Count { whole, ..w.count },
+            ..w
+        };
+    }
+    if w.count.cut < w.plan.cuts {
+        return Walk {
+            due: Due::Radial,
+            at: end,
+            count: Count {
+                cut: w.count.cut + 1,
+                whole,
+                in_cut: 0,
+            },
+            ..w
         };
     }
     Walk {
-        due: Due::Radial,
+        due: Due::Nothing,
         at: end,
-        plan,
-        count,
-        present,
-        rest,
+        count: Count {
+            whole,
+            in_cut: 0,
+            ..w.count
+        },
+        ..w
     }
 }

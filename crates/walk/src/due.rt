@@ -146,16 +146,7 @@ pub fn size_at(due: Due, length: usize) -> usize
 pub fn is_end(due: Due) -> bool
     ensures { result ≡ is_end due }
 {
-    match due {
-        Due::Generic => false,
-        Due::Site => false,
-        Due::Task => false,
-        Due::Cut => false,
-        Due::Radial => false,
-        Due::Moment => false,
-        Due::Data => false,
-        Due::Nothing => true,
-    }
+    matches!(due, Due::Nothing)
 }
 
 // Whether the due block is the last of its radial.
@@ -163,14 +154,8 @@ pub fn ends_radial(due: Due, todo: usize) -> bool
     ensures { result ≡ ends_radial due todo }
 {
     match due {
-        Due::Generic => false,
-        Due::Site => false,
-        Due::Task => false,
-        Due::Cut => false,
-        Due::Radial => false,
-        Due::Moment => false,
         Due::Data => todo == 0,
-        Due::Nothing => false,
+        _ => false,
     }
 }
 

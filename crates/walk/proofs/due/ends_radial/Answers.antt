@@ -1,34 +1,26 @@
+use mathlib.Core.Path.{◌≡◌, refl}
+use mathlib.Core.Bool.{false}
+use Prim.Native.Nat.{ℕ}
+use Rattle.walk.specs.declared.due.Due.{Due}
+use Rattle.walk.specs.declared.due.Due.TheVariants as due
 use Rattle.walk.specs.Due.{ends_radial}
 use Rattle.walk.proofs.due.ends_radial.Goals as goal
 
-pub returns-in-Generic : goal.returns-in-Generic
+-- only data ends a radial
+others : (d : Due) (n : ℕ) → (d ≡ due.Data → ⊥) → false ≡ ends_radial d n
 unfolding ends_radial
-returns-in-Generic c = rw c.in-Generic.is
+others due.Generic n h = refl
+others due.Site n h = refl
+others due.Task n h = refl
+others due.Cut n h = refl
+others due.Radial n h = refl
+others due.Moment n h = refl
+others due.Data n h = absurd (h refl)
+others due.Nothing n h = refl
 
-pub returns-in-Site : goal.returns-in-Site
-unfolding ends_radial
-returns-in-Site c = rw c.in-Site.is
-
-pub returns-in-Task : goal.returns-in-Task
-unfolding ends_radial
-returns-in-Task c = rw c.in-Task.is
-
-pub returns-in-Cut : goal.returns-in-Cut
-unfolding ends_radial
-returns-in-Cut c = rw c.in-Cut.is
-
-pub returns-in-Radial : goal.returns-in-Radial
-unfolding ends_radial
-returns-in-Radial c = rw c.in-Radial.is
-
-pub returns-in-Moment : goal.returns-in-Moment
-unfolding ends_radial
-returns-in-Moment c = rw c.in-Moment.is
+pub returns-in_default : goal.returns-in_default
+returns-in_default c = others c.args.due c.args.todo c.in_default.not-Data
 
 pub returns-in-Data : goal.returns-in-Data
 unfolding ends_radial
 returns-in-Data c = rw c.in-Data.is
-
-pub returns-in-Nothing : goal.returns-in-Nothing
-unfolding ends_radial
-returns-in-Nothing c = rw c.in-Nothing.is

@@ -1,33 +1,24 @@
+use mathlib.Core.Path.{◌≡◌, refl}
+use mathlib.Core.Bool.{false}
+use Rattle.walk.specs.declared.due.Due.{Due}
+use Rattle.walk.specs.declared.due.Due.TheVariants as due
 use Rattle.walk.specs.Due.{is_end}
 use Rattle.walk.proofs.due.is_end.Goals as goal
 
-pub returns-in-Generic : goal.returns-in-Generic
+-- only where nothing is due
+others : (d : Due) → (d ≡ due.Nothing → ⊥) → false ≡ is_end d
 unfolding is_end
-returns-in-Generic c = rw c.in-Generic.is
+others due.Generic n = refl
+others due.Site n = refl
+others due.Task n = refl
+others due.Cut n = refl
+others due.Radial n = refl
+others due.Moment n = refl
+others due.Data n = refl
+others due.Nothing n = absurd (n refl)
 
-pub returns-in-Site : goal.returns-in-Site
-unfolding is_end
-returns-in-Site c = rw c.in-Site.is
-
-pub returns-in-Task : goal.returns-in-Task
-unfolding is_end
-returns-in-Task c = rw c.in-Task.is
-
-pub returns-in-Cut : goal.returns-in-Cut
-unfolding is_end
-returns-in-Cut c = rw c.in-Cut.is
-
-pub returns-in-Radial : goal.returns-in-Radial
-unfolding is_end
-returns-in-Radial c = rw c.in-Radial.is
-
-pub returns-in-Moment : goal.returns-in-Moment
-unfolding is_end
-returns-in-Moment c = rw c.in-Moment.is
-
-pub returns-in-Data : goal.returns-in-Data
-unfolding is_end
-returns-in-Data c = rw c.in-Data.is
+pub returns-in_default : goal.returns-in_default
+returns-in_default c = others c.args.due c.in_default.not-Nothing
 
 pub returns-in-Nothing : goal.returns-in-Nothing
 unfolding is_end
