@@ -28,7 +28,7 @@ not-suc a b = dite (dec_lt b (a + 1)) (λ h. rw (lt-leb (a + 1) b h, le-leb b a 
 SAME_KINDS, ENOUGH_KINDS = 'eqb (length k) (length codes)', 'leb (length codes) (length k)'
 SAME_HUNDREDTHS, ENOUGH_HUNDREDTHS = 'eqb (length h) (length codes)', 'leb (length codes) (length h)'
 ONE_BYTE, TWO_BYTES = 'cond (bit sizes t) true (is 1 (short bin))', 'cond (bit sizes t) (is 2 (short bin)) true'
-CHECKED, COMPARE = (f'crates/decoded/proofs/{path}.antt' for path in ('Checked', 'compare/Answers'))
+CHECKED = 'crates/decoded/proofs/Checked.antt'
 OLD, CODES, HEADERS = (f'crates/old/specs/{name}.antt' for name in ('Old', 'Codes', 'Headers'))
 KEPT = 'crates/old/proofs/Kept.antt'
 OLD_RECORD, OLD_HEADERS = (f'crates/old/src/{name}.rt' for name in ('record', 'headers'))
@@ -188,13 +188,15 @@ returns-then-cuts-eq0 c =
     (rw (e, ← c.u16_at.ensures), omega arith)
 
 '''
-RADIALS_OLD = '''unfolding radials_at cuts_said counts_at
-returns c =
+RADIALS_OLD = '''pub returns-else-cuts-eq0 : goal.returns-else-cuts-eq0
+unfolding radials_at cuts_said counts_at
+returns-else-cuts-eq0 c =
     let x = c.args.index.now in
     let e = ne_eqb (old_cuts x) 0 (λ z. c.if-cuts-eq0.false (c.old_cuts-cuts.ensures ∙ z)) in
     (rw (e, ← c.old_cuts-cuts.ensures), omega arith)
 '''
-RADIALS_OLD_ALONE = '''unfolding radials_at
+RADIALS_OLD_ALONE = '''pub returns : goal.returns
+unfolding radials_at
 returns c = (rw (← c.old_cuts-cuts.ensures), omega arith)
 '''
 INDEX_FIRST = '    if !index::right(file, index) {\n        return ListAnswer::Refused(59);\n    }\n'
@@ -214,23 +216,13 @@ LIST_59_LAST = '''    go false q true s =
         let here : answered m ≡ refused 33 0 = sym e ∙ rw (q, s) at p.answer in
         absurd (let z : ◌≡◌ {A = ℕ} 0 1 = cc in omega arith)
 '''
-RIGHT_KINDS = '''-- the index is right, and how many questions there are
-right : (c : goal.Then-kinds-n) → let a = c.args in right_for a.file.now a.index.now ≡ true
-right c = sym c.right.ensures ∙ c.if-not-right.false
-
-'''
-RIGHT_HUNDREDTHS = '''right-2 : (c : goal.Then-hundredths-n) → let a = c.args in right_for a.file.now a.index.now ≡ true
-right-2 c = sym c.right.ensures ∙ c.if-not-right.false
-
-'''
 NOT_RIGHT = 'returns-then-not-right c = not_right _ _ _ _ _ (sym c.right.ensures ∙ c.if-not-right.true)\n'
 NOT_RIGHT_LAST = '''returns-then-not-right c =
-    let a = c.args in
-    let n : c.shortest-n.result ≡ length (asked a.radials.now a.types.now a.gates.now) = c.shortest-n.ensures ∙ sym (many-asked _ _ _) in
-    let l = c.if-kinds-n.false in
-    let h = c.if-hundredths-n.false in
+    let e = many-asked c.args.radials.now c.args.types.now c.args.gates.now in
     not_right _ _ _ _ _ (sym c.right.ensures ∙ c.if-not-right.true) (omega arith) (omega arith)
 '''
+SHORT = 'short _ _ _ _ _ (sym c.right.ensures ∙ c.if-not-right.false) (omega arith)'
+SHORT_FIRST = 'short _ _ _ _ _ (omega arith)'
 FIND_NONE = '''pub returns-then-sequence-eq0 : goal.returns-then-sequence-eq0
 unfolding place_said
 returns-then-sequence-eq0 c = rw c.if-sequence-eq0.true
@@ -282,9 +274,7 @@ SLIPS = {
     # classes of types 13 and 14 (document 02, #101)
     'other_types': [
         ('crates/gates/specs/Gates.antt', 'eqb t 14 || eqb t 15', 'eqb t 13 || eqb t 14'),
-        ('crates/gates/src/lib.rt', '14 => false,\n        15 => false,', '13 => false,\n        14 => false,'),
-        ('crates/gates/proofs/is_measurement/Answers.antt', 'in-14', 'in-13'),
-        ('crates/gates/proofs/is_measurement/Answers.antt', 'in-15', 'in-14'),
+        ('crates/gates/src/lib.rt', '14 | 15', '13 | 14'),
         ('crates/gates/proofs/Gates.antt', 't 14', 't 13'),
         ('crates/gates/proofs/Gates.antt', '≡ 14', '≡ 13'),
         ('crates/gates/proofs/Gates.antt', 't 15', 't 14'),
@@ -339,7 +329,7 @@ SLIPS = {
     # a code over a scale of 0 told as 1 (document 02, #105)
     'one_over_zero': [
         ('crates/gates/specs/Gates.antt', '(fin false 0 (pos 0)) (div', '(fin false 1 (pos 0)) (div'),
-        ('crates/gates/src/lib.rt', 'return 0.0;', 'return 1.0;'),
+        ('crates/gates/src/lib.rt', 'if c.scale == 0 {\n        0.0', 'if c.scale == 0 {\n        1.0'),
         ('crates/gates/proofs/Gates.antt', 'float_of c code ≡ fin false 0 (pos 0)', 'float_of c code ≡ fin false 1 (pos 0)'),
     ],
     # 255 cuts at the most (number 8; document 02, #106)
@@ -367,8 +357,7 @@ SLIPS = {
     # an index of 51 cuts in the old form (document 02, #106)
     'old_form_to_51': [
         ('crates/index/specs/Index.antt', 'most_old = 50', 'most_old = 51'),
-        ('crates/index/src/making.rt', '0..=50 => true', '0..=51 => true'),
-        ('crates/index/proofs/making/old_form/Answers.antt', '0-to-50', '0-to-51'),
+        ('crates/index/src/making.rt', 'cuts <= 50', 'cuts <= 51'),
     ],
     # the two bytes of the number of cuts swapped in the new form (document 02, #106)
     'cuts_swapped': [
@@ -382,7 +371,7 @@ SLIPS = {
     'end_counted_in': [
         ('crates/wedge/specs/Wedge.antt', 'not (reaches end x)', 'not (reaches (end + 1) x)'),
         ('crates/wedge/specs/Wedge.antt', 'ℕ, ◌*◌, eqb', 'ℕ, ◌+◌, ◌*◌, eqb'),
-        ('crates/wedge/src/lib.rt', 'h < self.end }', 'h <= self.end }'),
+        ('crates/wedge/src/lib.rt', 'h < self.end', 'h <= self.end'),
         ('crates/wedge/proofs/Wedges.antt', 'ltb h end)', 'leb h end)'),
         ('crates/wedge/proofs/Wedges.antt', 'w start, w end, not-leb end h)', 'w start, w (end + 1), not-suc end h)'),
         ('crates/wedge/proofs/Wedges.antt', '-- by the whole part\n', NOT_SUC),
@@ -399,9 +388,7 @@ SLIPS = {
     ],
     # an end of 36,000 let in (number 61; document 02, #114)
     'wedge_to_36000': [
-        ('crates/wedge/src/lib.rt', '0..=35999 =>', '0..=36000 =>'),
-        ('crates/wedge/proofs/Wedge/ok/Answers.antt', '36000', '36001'),
-        ('crates/wedge/proofs/Wedge/ok/Answers.antt', '0-to-35999', '0-to-36000'),
+        ('crates/wedge/src/lib.rt', 'self.start < 36000 && self.end < 36000', 'self.start < 36001 && self.end < 36001'),
         ('crates/wedge/specs/Wedge.antt', 'ltb w.start circle && ltb w.end circle', 'ltb w.start 36001 && ltb w.end 36001'),
     ],
     # a wedge of elevations (document 02, #114)
@@ -416,7 +403,7 @@ SLIPS = {
         ('crates/ask/specs/Tallies.antt', '(radial_at b 0).spot_blank 1)', '(radial_at b 0).spot_blank 0)'),
         ('crates/ask/src/tallies.rt', 'spot_blank 1)', 'spot_blank 0)'),
         ('crates/ask/src/tallies.rt', 'Radial::SPOT_BLANK) == 1', 'Radial::SPOT_BLANK) == 0'),
-        ('crates/ask/proofs/tallies/blank/Answers.antt', 'u32_at-eq1', 'u32_at-eq0'),
+        ('crates/ask/proofs/tallies/blank/Answers.antt', 'eqb c.u32_at.result 1', 'eqb c.u32_at.result 0'),
         ('crates/ask/proofs/Tallying.antt', 'spot_blank 1)', 'spot_blank 0)'),
     ],
     # hope of a cut by its size mask (document 02, #110)
@@ -444,29 +431,20 @@ SLIPS = {
         ('crates/coming/specs/Radials.antt', '2 * (cuts - cut)', '1 * (cuts - cut)'),
         ('crates/coming/src/lib.rt', '65536 - 2 * later', '65536 - 1 * later'),
         ('crates/coming/src/lib.rt', 'if 32768 < later', 'if 65536 < later'),
-        ('crates/coming/proofs/radials_can_after/Answers.antt', 'gt32768', 'gt65536'),
         ('crates/coming/proofs/Radials.antt', '2 * (cuts - cut)', '1 * (cuts - cut)'),
-        ('crates/coming/proofs/Radials.antt', '32768', '65536'),
     ],
     # a full cut let open (document 02, #110)
     'full_cut_let_open': [
         ('crates/coming/specs/Radials.antt', 'ltb in_cut most_radials', 'leb in_cut most_radials'),
         ('crates/coming/specs/Radials.antt', 'ltb number most_radials', 'leb number most_radials'),
-        ('crates/coming/src/lib.rt', 'if number < 1000', 'if number <= 1000'),
-        ('crates/coming/proofs/radials_can_after/Answers.antt', 'number-lt1000', 'number-le1000'),
-        ('crates/coming/proofs/Radials.antt', 'number < 1000 →', 'number ≤ 1000 →'),
-        ('crates/coming/proofs/Radials.antt', 'rw (lt-ltb number 1000 l)', 'rw (le-leb number 1000 l)'),
-        ('crates/coming/proofs/Radials.antt', 'full : 1000 ≤ number', 'full : 1000 < number'),
-        ('crates/coming/proofs/Radials.antt', 'rw (le-ltb number 1000 h)', 'rw (lt-leb number 1000 h)'),
-        ('crates/coming/proofs/Radials.antt', 'rw (lt-leb (sequence + 1 + 2 * (cuts - cut)) 65536 (omega arith)) (sym (and-false (ltb number 1000)))',
-         'rw (lt-leb (sequence + 1 + 2 * (cuts - cut)) 65536 (omega arith)) (sym (and-false (leb number 1000)))'),
+        ('crates/coming/src/lib.rt', 'number < 1000 &&', 'number <= 1000 &&'),
     ],
     # a decoded row that goes on behind the row let through (document 02, #112)
     'longer_let_through': [
         ('crates/decoded/specs/Decoded.antt', f'{SAME_KINDS} && {SAME_HUNDREDTHS}', f'{ENOUGH_KINDS} && {ENOUGH_HUNDREDTHS}'),
         ('crates/decoded/specs/Decoded.antt', 'eqb, ℤ', 'eqb, leb, ℤ'),
-        ('crates/decoded/src/lib.rt', 'if kinds.len() == n', 'if n <= kinds.len()'),
-        ('crates/decoded/src/lib.rt', 'if hundredths.len() == n', 'if n <= hundredths.len()'),
+        ('crates/decoded/src/lib.rt', 'kinds.len() == n', 'n <= kinds.len()'),
+        ('crates/decoded/src/lib.rt', 'hundredths.len() == n', 'n <= hundredths.len()'),
         (CHECKED, 'length k ≡ length codes', 'length codes ≤ length k'),
         (CHECKED, 'length h ≡ length codes', 'length codes ≤ length h'),
         (CHECKED, 'eqb-true (length k) (length codes)', 'leb-true (length codes) (length k)'),
@@ -478,10 +456,6 @@ SLIPS = {
         (CHECKED, 'use borrow.Author.Tests.{eq-eqb, eqb-true}', 'use borrow.Author.Tests.{eq-eqb, eqb-true, le-leb, leb-true}'),
         (CHECKED, 'use lib.Dec.{eqb}', 'use lib.Dec.{eqb, leb}'),
         (CHECKED, 'use Prim.Native.Nat.{ℕ}', 'use Prim.Native.Nat.{ℕ, ◌≤◌}'),
-        (COMPARE, 'hundredths-n', 'n-hundredths'),
-        (COMPARE, 'kinds-n', 'n-kinds'),
-        (COMPARE, 'c.if-n-hundredths.false (let h = e.hundredths in omega arith)', 'let h = e.hundredths in let l = c.if-n-hundredths.false in omega arith'),
-        (COMPARE, 'c.if-n-kinds.false (let k = e.kinds in omega arith)', 'let k = e.kinds in let l = c.if-n-kinds.false in omega arith'),
     ],
     # 31 for a radial that is not there (document 02, #112)
     'thirty_one_for_thirty': [
@@ -654,7 +628,7 @@ SLIPS = {
         (WANTED, 'bit wanted', 'bit (wanted / 2)'),
         (WANTED, '{ℕ, ◌+◌, ', '{ℕ, ◌+◌, ◌/◌, '),
         (PICKED, OWN_MASK, 'bit_and (le 8 b 84) (wanted / 2)'),
-        (PICKED, '{ℕ, ◌+◌, ', '{ℕ, ◌+◌, ◌/◌, '),
+        (PICKED, '{ℕ, Bool, ', '{ℕ, ◌/◌, Bool, '),
         (PICK_KEEP, 'bit wanted', 'bit (wanted / 2)'),
         (PICK_KEEP, 'bit(wanted,', 'bit(wanted / 2,'),
         (PICK_KEEP, '{◌≡◌, ◌-◌, ', '{◌≡◌, ◌-◌, ◌/◌, '),
@@ -791,7 +765,7 @@ SLIPS = {
     # the radials of an index found by the old form alone (document 02, #109)
     'old_form_alone': [
         (FORMS, 'radials_at x = counts_at x + 2 * cuts_said x', 'radials_at x = 1 + 2 * old_cuts x'),
-        (SAID, '    if cuts == 0 {\n        return 3 + 2 * (le::u16_at(index, 1) as usize);\n    }\n', ''),
+        (SAID, '    if cuts == 0 {\n        3 + 2 * (le::u16_at(index, 1) as usize)\n    } else {\n        1 + 2 * (cuts as usize)\n    }\n', '    1 + 2 * (cuts as usize)\n'),
         (RADIALS_AT, RADIALS_NEW, ''),
         (RADIALS_AT, RADIALS_OLD, RADIALS_OLD_ALONE),
         (SAID_BACK, 'length (start cuts)\n\n', 'length (start cuts)\n    radials : radials_at (index_by start cuts ss) ≡ length (start cuts) + 2 * cuts\n\n'),
@@ -828,17 +802,12 @@ SLIPS = {
         (FILLING, 'no_room r e = record { answer = rw (r, e); kinds = rw (r, e); hundredths = rw (r, e) }',
          'no_room e = record { answer = rw e; kinds = rw (e, neither (right_for f x)); hundredths = rw (e, neither (right_for f x)) }'),
         (FILLING, '  no_room :', NEITHER + '  no_room :'),
-        (FILLING, 'short-kinds : right_for f x ≡ true →', 'short-kinds :'),
-        (FILLING, 'short-kinds r l = no_room r', 'short-kinds l = no_room'),
-        (FILLING, 'short-hundredths : right_for f x ≡ true →', 'short-hundredths :'),
-        (FILLING, 'short-hundredths r m l = no_room r', 'short-hundredths m l = no_room'),
+        (FILLING, 'short : right_for f x ≡ true →', 'short :'),
+        (FILLING, 'short r l = no_room r', 'short l = no_room'),
         (FILLING, 'Bool.{Bool, true, false}', 'Bool.{Bool, true, false, ◌&&◌}'),
         (MEANING, LIST_59, LIST_59_LAST),
         (LIST_ANSWER, NOT_RIGHT, NOT_RIGHT_LAST),
-        (LIST_ANSWER, RIGHT_KINDS, ''),
-        (LIST_ANSWER, RIGHT_HUNDREDTHS, ''),
-        (LIST_ANSWER, ' (right c)', ''),
-        (LIST_ANSWER, ' (right-2 c)', ''),
+        (LIST_ANSWER, SHORT, SHORT_FIRST),
     ],
 }
 

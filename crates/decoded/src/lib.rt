@@ -2,7 +2,7 @@
 // moment's codes that ends at the first difference; no row is made, and nothing is divided.
 #![tactic(auto)]
 
-ghost use Rattle.std.specs.Prelude.{◌≡◌, cond, ◌&&◌, min, eqb, pos, ◌+ℤ◌};
+ghost use Rattle.std.specs.Prelude.{◌≡◌, cond, ◌&&◌, eqb, pos, ◌+ℤ◌};
 ghost use Rattle.gates.specs.Codes.{codes_of};
 ghost use Rattle.gates.specs.Gates.{hundredths_of, kind_of};
 ghost use Rattle.gates.specs.Rows.{shown_of};

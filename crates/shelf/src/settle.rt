@@ -82,7 +82,7 @@ pub(crate) fn settle_ours(g: Generic, s: Site, t: Task, cuts: &[u8], room: &[u8]
 fn counted(n: usize) -> u32
     ensures { result ≡ counted_of n }
 {
-    (std::num::wrapping_add_usize(n, 1) % 0x1_0000_0000) as u32
+    (n.wrapping_add(1) % 0x1_0000_0000) as u32
 }
 
 // Its header, counted anew.
