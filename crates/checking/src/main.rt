@@ -1,16 +1,17 @@
-// Checks rows that somebody decoded (document 02, #112). Standard input is one volume after the other, each with rows to check against
-// it: how many bytes the volume has, how many rows follow it, its bytes; then each row, by its radial, its type, how many kinds and how
-// many hundredths there are, and these. A kind has one byte, every other number four, little-endian, and hundredths are signed. A line
-// for each row: that it is the file's own, or the first gate at which it differs; a refusal as its number and place and, in the next
-// line, in words. Of the input 2,424,856 bytes are taken, enough for a volume of 2,097,152 bytes and a row of 65,536 gates; a longer one
-// is not looked at.
+// Checks rows that somebody decoded. Standard input is one volume after the other, each with rows to check against it: how many bytes
+// the volume has, how many rows follow it, its bytes; then each row, by its radial, its type, how many kinds and how many hundredths
+// there are, and these. A kind has one byte, every other number four, little-endian, and hundredths are signed. A line for each row:
+// that it is the file's own, or the first gate at which it differs; a refusal as its number and place and, in the next line, in words.
+// Of the input 2,424,856 bytes are taken, enough for a volume of 2,097,152 bytes and a row of 65,536 gates; a longer one is not looked
+// at.
 #![tactic(auto)]
 
-ghost use Rattle.std.specs.Prelude.{◌≡◌, ◌≤◌, ◌<◌, length, IfOk};
+ghost use Rattle.std.specs.Prelude.{◌≤◌, ◌<◌, ◌*◌, length, IfOk};
 
 use decoded::CheckAnswer;
 use printing::{bare_refused, behind, first, newline, number, read_full, word};
 use std::io;
+use std::io::Read;
 
 fn say_refusal(out: &impl Print, n: u32) -> io::Result<()> {
     match n {
@@ -35,101 +36,90 @@ fn print_answer(out: &impl Print, answer: CheckAnswer) -> io::Result<()> {
     }
 }
 
-// The numbers of four bytes each.
-fn unpack(bytes: &[u8], room: &mut [i32]) -> usize
-    ensures { result ≤ length room.new }
+// The numbers of four bytes each, put into a room that has place for them.
+fn unpack<'a>(bytes: &[u8], room: &'a mut [i32]) -> &'a [i32]
+    requires { length bytes.now ≤ 4 * length room.old }
 {
-    let mut n = 0;
-    while n < room.len() {
-        if bytes.len() < 4 * n + 4 {
-            return n;
-        }
-        let x = le::i32_of(le::u32_at(bytes, 4 * n));
-        room[n] = x;
-        n += 1;
+    for (x, four) in room.iter_mut().zip(bytes.chunks_exact(4)) {
+        *x = le::i32_of(le::u32_at(four, 0));
     }
-    n
+    &room[..bytes.len() / 4]
 }
 
-// The row at a place, and the place behind it.
-fn row(
+// The row that the input begins with, and what follows it.
+fn row<'a>(
     out: &impl Print,
     volume: &[u8],
-    input: &[u8],
-    at: usize,
+    input: &'a [u8],
     room: &mut [i32],
-) -> io::Result<usize>
-    requires { at < length input.now }
-    ensures { IfOk result (λ next. at ≤ next) }
+) -> io::Result<&'a [u8]>
+    ensures { IfOk result (λ rest. length rest.now ≤ length input.now) }
 {
-    let kinds = le::u32_at(input, at + 8) as usize;
-    let bytes = 4 * (le::u32_at(input, at + 12) as usize);
-    let n = unpack(first(behind(input, at + 16 + kinds), bytes), room);
+    let kinds = le::u32_at(input, 8) as usize;
+    let bytes = 4 * (le::u32_at(input, 12) as usize);
+    let lists = behind(input, 16);
+    let hundredths = behind(lists, kinds);
     if bytes <= 4 * room.len() {
         print_answer(
             out,
             decoded::check(
                 volume,
-                le::u32_at(input, at) as usize,
-                le::u32_at(input, at + 4),
-                first(behind(input, at + 16), kinds),
-                &room[..n],
+                le::u32_at(input, 0) as usize,
+                le::u32_at(input, 4),
+                first(lists, kinds),
+                unpack(first(hundredths, bytes), room),
             ),
         )?;
     } else {
         word(out, b"too long\n")?;
     }
-    Ok(at + 16 + kinds + bytes)
+    Ok(behind(hundredths, bytes))
 }
 
-// So many rows from a place on, and the place behind them.
-fn rows(
+// So many rows, and what follows them.
+fn rows<'a>(
     out: &impl Print,
     volume: &[u8],
-    input: &[u8],
-    from: usize,
+    input: &'a [u8],
     count: u32,
     room: &mut [i32],
-) -> io::Result<usize>
-    ensures { IfOk result (λ next. from ≤ next) }
+) -> io::Result<&'a [u8]>
+    ensures { IfOk result (λ rest. length rest.now ≤ length input.now) }
 {
-    let mut at = from;
-    let mut left = count;
-    while 0 < left {
-        if input.len() <= at {
-            return Ok(at);
+    let mut rest = input;
+    for _ in 0..count {
+        if rest.is_empty() {
+            break;
         }
-        at = row(out, volume, input, at, room)?;
-        left -= 1;
+        rest = row(out, volume, rest, room)?;
     }
-    Ok(at)
+    Ok(rest)
 }
 
 fn each(out: &impl Print, input: &[u8], room: &mut [i32]) -> io::Result<()> {
-    let mut at = 0;
-    while at < input.len() {
-        let n = le::u32_at(input, at) as usize;
-        let count = le::u32_at(input, at + 4);
-        let volume = first(behind(input, at + 8), n);
-        at = rows(out, volume, input, at + 8 + n, count, room)?;
+    let mut rest = input;
+    while !rest.is_empty() {
+        let bytes = le::u32_at(rest, 0) as usize;
+        let count = le::u32_at(rest, 4);
+        let behind_counts = behind(rest, 8);
+        let volume = first(behind_counts, bytes);
+        rest = rows(out, volume, behind(behind_counts, bytes), count, room)?;
     }
     Ok(())
 }
 
-// One byte more than the longest volume and row with what is said before them.
-fn room() -> [u8; 2424857]
-    ensures { 2424857 ≡ length result }
-{
-    [0; 2424857]
+fn run(out: &impl Print, input: &mut impl Read, buf: &mut [u8]) -> io::Result<()> {
+    let n = read_full(input, buf)?;
+    let mut hundredths = [0i32; 65536];
+    if n < buf.len() {
+        each(out, first(buf, n), &mut hundredths)
+    } else {
+        word(out, b"too long\n")
+    }
 }
 
 fn main(rt: HostRuntime) -> io::Result<()> {
-    let mut buf = room();
-    let n = read_full(&mut rt.stdin(), &mut buf)?;
-    let mut hundredths = [0i32; 65536];
-    if n < 2424857 {
-        each(&rt, first(&buf, n), &mut hundredths)
-    } else {
-        word(&rt, b"too long\n")
-    }
+    // one byte more than the longest volume and row with what is said before them
+    let mut buf = [0u8; 2424857];
+    run(&rt, &mut rt.stdin(), &mut buf)
 }

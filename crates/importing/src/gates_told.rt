@@ -8,10 +8,8 @@ use std::io;
 
 // Of a value its exact fraction too, not reduced.
 fn print_told(out: &impl Print, told: Told) -> io::Result<()> {
-    let gate = told.gate;
-    let kind = gate.kind();
-    number(out, kind as u64)?;
-    if kind == Gate::VALUE {
+    number(out, told.gate.kind() as u64)?;
+    if matches!(told.gate, Gate::Value(_)) {
         word(out, b" ")?;
         bare_signed(out, told.difference)?;
         part(out, b"/", told.scale as u64)?;
@@ -33,10 +31,8 @@ fn print_gates(
     t: u32,
     count: usize,
 ) -> io::Result<()> {
-    let mut i = 0;
-    while i < count {
+    for i in 0..count {
         print_gate(out, answers::gate(volume, sequence, t, i))?;
-        i += 1;
     }
     Ok(())
 }
@@ -62,12 +58,10 @@ fn print_moment(out: &impl Print, volume: &[u8], sequence: usize, t: u32) -> io:
 }
 
 pub(crate) fn print_radials(out: &impl Print, volume: &[u8], count: usize) -> io::Result<()> {
-    let mut n = 0;
-    while n < count {
-        n += 1;
-        print_moment(out, volume, n, 2)?;
-        print_moment(out, volume, n, 3)?;
-        print_moment(out, volume, n, 4)?;
+    for sequence in 1..=count {
+        for t in 2..=4 {
+            print_moment(out, volume, sequence, t)?;
+        }
     }
     Ok(())
 }

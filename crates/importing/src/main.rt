@@ -1,17 +1,16 @@
-// Brings an old shelf in (document 02, #102). Standard input is one case after the other: how many bytes our records have, how many the
-// old file has, how long the room is, which output is wanted; each of these numbers has four bytes, little-endian. Then our records,
-// generic, site, task and cuts, one after the other, and the old file. The room is filled with AA before, and its checksum covers all of
-// it, so that no byte is stored unseen. Of the input 2,163,120 bytes are taken, enough for our records of 256 cuts and an old file of
-// 2,097,152 bytes, and a room has up to 4,169,072 bytes, enough for any volume of these. What is longer is not looked at, and neither is a
-// case that the input ends in.
+// Brings an old shelf in. Standard input is one case after the other: how many bytes our records have, how many the old file has, how long
+// the room is, which output is wanted; each of these numbers has four bytes, little-endian. Then our records, generic, site, task and cuts,
+// one after the other, and the old file. The room is filled with AA before, and its checksum covers all of it, so that no byte is stored
+// unseen. Of the input 2,163,120 bytes are taken, enough for our records of 256 cuts and an old file of 2,097,152 bytes, and a room has up
+// to 4,169,072 bytes, enough for any volume of these. What is longer is not looked at, and neither is a case that the input ends in.
 #![tactic(auto)]
 
 mod gates_told;
 mod telling;
 
-ghost use Rattle.std.specs.Prelude.{◌<◌, length, IfOk};
+ghost use Rattle.std.specs.Prelude.{◌≤◌, ◌-◌, length, IfOk};
 
-use crate::telling::{print_refused, print_taken};
+use crate::telling::{Output, print_refused, print_taken};
 use generic::Generic;
 use printing::{behind, fill, first, read_full, word};
 use site::Site;
@@ -26,7 +25,7 @@ fn bring(
     records: &[u8],
     old: &[u8],
     room: &mut [u8],
-    output: u32,
+    output: Output,
 ) -> io::Result<()> {
     fill(room, 0xAA);
     let put = shelf::import(
@@ -37,8 +36,7 @@ fn bring(
         old,
         room,
     );
-    let answer = put.answer;
-    match answer {
+    match put.answer {
         Answer::Taken => print_taken(out, room, put.walk.at, output),
         Answer::Refused(number, place) => print_refused(out, room, number, place, output),
     }
@@ -51,7 +49,7 @@ fn answer(
     old: &[u8],
     room: &mut [u8],
     asked: usize,
-    output: u32,
+    output: Output,
 ) -> io::Result<()> {
     if records.len() < Generic::SIZE + Site::SIZE + Task::SIZE {
         word(out, b"no records\n")
@@ -62,33 +60,28 @@ fn answer(
     }
 }
 
-// The case at a place, and the place behind it.
-fn case(out: &impl Print, input: &[u8], at: usize, room: &mut [u8]) -> io::Result<usize>
-    requires { at < length input.now }
-    ensures { IfOk result (λ next. at < next) }
+// The case that the input begins with, and what follows it.
+fn case<'a>(out: &impl Print, input: &'a [u8], room: &mut [u8]) -> io::Result<&'a [u8]>
+    ensures { IfOk result (λ rest. length rest.now ≤ length input.now - 16) }
 {
-    let records = le::u32_at(input, at) as usize;
-    let old = le::u32_at(input, at + 4) as usize;
-    let next = at + 16 + records + old;
-    if input.len() < next {
+    let records = le::u32_at(input, 0) as usize;
+    let old = le::u32_at(input, 4) as usize;
+    let asked = le::u32_at(input, 8) as usize;
+    let output = Output::from(le::u32_at(input, 12));
+    if input.len() < 16 + records + old {
         word(out, b"cut short\n")?;
-        return Ok(next);
+        return Ok(&[]);
     }
-    answer(
-        out,
-        first(behind(input, at + 16), records),
-        first(behind(input, at + 16 + records), old),
-        room,
-        le::u32_at(input, at + 8) as usize,
-        le::u32_at(input, at + 12),
-    )?;
-    Ok(next)
+    let (records, rest) = input[16..].split_at(records);
+    let (old, rest) = rest.split_at(old);
+    answer(out, records, old, room, asked, output)?;
+    Ok(rest)
 }
 
 fn each(out: &impl Print, input: &[u8], room: &mut [u8]) -> io::Result<()> {
-    let mut at = 0;
-    while at < input.len() {
-        at = case(out, input, at, room)?;
+    let mut rest = input;
+    while !rest.is_empty() {
+        rest = case(out, rest, room)?;
     }
     Ok(())
 }

@@ -1,100 +1,91 @@
-// Says why (document 02, #104). Standard input is one case after the other: how many bytes a volume has, how many questions follow it,
-// and its bytes; then each question, by its radial, its type and its gate. Each of these numbers has four bytes, little-endian. Without a
-// question it is told why the file is refused, else why each gate is as it is. An empty line parts two answers. Of the input 2,097,172
-// bytes are taken, enough for a volume of 2,097,152 bytes and a question; a longer one is not looked at.
+// Says why. Standard input is one case after the other: how many bytes a volume has, how many questions follow it, and its bytes; then each
+// question, by its radial, its type and its gate. Each of these numbers has four bytes, little-endian. Without a question it is told why
+// the file is refused, else why each gate is as it is. An empty line parts two answers. Of the input 2,097,172 bytes are taken, enough for
+// a volume of 2,097,152 bytes and a question; a longer one is not looked at.
 #![tactic(auto)]
 
 mod angles;
 mod numbers;
 mod words;
 
-ghost use Rattle.std.specs.Prelude.{◌≡◌, ◌≤◌, ◌<◌, length, IfOk};
+ghost use Rattle.std.specs.Prelude.{◌≤◌, ◌-◌, length, IfOk};
 
 use citing::{answers, refusals};
 use printing::{behind, first, newline, read_full, word};
 use std::io;
+use std::io::Read;
 
-// The question at a place.
-fn question(out: &impl Print, volume: &[u8], input: &[u8], at: usize) -> io::Result<()>
-    requires { at < length input.now }
-{
+// The bytes of a question.
+const QUESTION: usize = 12;
+
+// A question, of which the input may end in the midst.
+fn say_question(out: &impl Print, volume: &[u8], question: &[u8]) -> io::Result<()> {
     words::say_gate(
         out,
         answers::gate(
             volume,
-            le::u32_at(input, at) as usize,
-            le::u32_at(input, at + 4),
-            le::u32_at(input, at + 8) as usize,
+            le::u32_at(question, 0) as usize,
+            le::u32_at(question, 4),
+            le::u32_at(question, 8) as usize,
         ),
     )
 }
 
-// So many questions from a place on, and the place behind them.
-fn questions(
+// So many questions, or as many as there are.
+fn say_questions(
     out: &impl Print,
     volume: &[u8],
-    input: &[u8],
-    from: usize,
-    count: u32,
-) -> io::Result<usize>
-    ensures { IfOk result (λ next. from ≤ next) }
-{
-    let mut at = from;
-    let mut left = count;
-    while 0 < left {
-        if input.len() <= at {
-            return Ok(at);
-        }
-        if from < at {
+    questions: &[u8],
+    count: usize,
+) -> io::Result<()> {
+    for (i, question) in questions.chunks(QUESTION).take(count).enumerate() {
+        if 0 < i {
             newline(out)?;
         }
-        question(out, volume, input, at)?;
-        at += 12;
-        left -= 1;
-    }
-    Ok(at)
-}
-
-// The case at a place, and the place behind it.
-fn case(out: &impl Print, input: &[u8], at: usize) -> io::Result<usize>
-    requires { at < length input.now }
-    ensures { IfOk result (λ next. at < next) }
-{
-    let n = le::u32_at(input, at) as usize;
-    let count = le::u32_at(input, at + 4);
-    let volume = first(behind(input, at + 8), n);
-    let next = at + 8 + n;
-    if count == 0 {
-        words::say_file(out, refusals::file(volume))?;
-        return Ok(next);
-    }
-    questions(out, volume, input, next, count)
-}
-
-fn each(out: &impl Print, input: &[u8]) -> io::Result<()> {
-    let mut at = 0;
-    while at < input.len() {
-        if 0 < at {
-            newline(out)?;
-        }
-        at = case(out, input, at)?;
+        say_question(out, volume, question)?;
     }
     Ok(())
 }
 
-// One byte more than the longest volume and what is said before and behind it.
-fn room() -> [u8; 2097173]
-    ensures { 2097173 ≡ length result }
+// The case that the input begins with, and what follows it.
+fn case<'a>(out: &impl Print, input: &'a [u8]) -> io::Result<&'a [u8]>
+    ensures { IfOk result (λ rest. length rest.now ≤ length input.now - 8) }
 {
-    [0; 2097173]
+    let bytes = le::u32_at(input, 0) as usize;
+    let count = le::u32_at(input, 4) as usize;
+    let behind_counts = behind(input, 8);
+    let volume = first(behind_counts, bytes);
+    let questions = behind(behind_counts, bytes);
+    if count == 0 {
+        words::say_file(out, refusals::file(volume))?;
+    } else {
+        say_questions(out, volume, questions, count)?;
+    }
+    Ok(behind(questions, QUESTION * count))
+}
+
+fn each(out: &impl Print, input: &[u8]) -> io::Result<()> {
+    let mut rest = input;
+    while !rest.is_empty() {
+        if rest.len() < input.len() {
+            newline(out)?;
+        }
+        rest = case(out, rest)?;
+    }
+    Ok(())
+}
+
+fn run(out: &impl Print, input: &mut impl Read, buf: &mut [u8]) -> io::Result<()> {
+    let n = read_full(input, buf)?;
+    if n < buf.len() {
+        each(out, first(buf, n))
+    } else {
+        word(out, b"too long\n")
+    }
 }
 
 fn main(rt: HostRuntime) -> io::Result<()> {
-    let mut buf = room();
-    let n = read_full(&mut rt.stdin(), &mut buf)?;
-    if n < 2097173 {
-        each(&rt, first(&buf, n))
-    } else {
-        word(&rt, b"too long\n")
-    }
+    // one byte more than the longest volume and what is said before and behind it
+    let mut buf = [0u8; 2097173];
+    run(&rt, &mut rt.stdin(), &mut buf)
 }

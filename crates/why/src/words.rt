@@ -19,8 +19,7 @@ fn say_refused(out: &impl Print, n: u32, place: usize) -> io::Result<()> {
 // ---- the block
 
 fn say_kind(out: &impl Print, b: Block) -> io::Result<()> {
-    let kind = b.kind;
-    match kind {
+    match b.kind {
         Due::Generic => word(out, b"generic header"),
         Due::Site => word(out, b"site"),
         Due::Task => word(out, b"task"),
@@ -41,7 +40,7 @@ fn say_block(out: &impl Print, b: Block) -> io::Result<()> {
     newline(out)
 }
 
-// ---- a row of the table: the field's name, and the words of the broken clause
+// ---- the field, and the words of the broken clause
 
 fn say_sign(out: &impl Print, negative: bool, under: &[u8], over: &[u8]) -> io::Result<()> {
     if negative {
@@ -69,199 +68,86 @@ fn say_angle(out: &impl Print, a: Angle) -> io::Result<()> {
     }
 }
 
-// Up to the number that was found.
-fn say_field(out: &impl Print, f: Field, name: &[u8]) -> io::Result<()> {
+// A clause in words: its field's name, and how it is broken. By its number; by the field's place in its block, where a number has several
+// fields; by which of the field's clauses it is, where it has several. The last row of each stands for all that is left: no clause has a
+// number, a place or a `which` that is not here.
+fn clause_words(c: Clause) -> (&'static [u8], &'static [u8]) {
+    match (c.number, c.place, c.which) {
+        (1, ..) => (b"magic", b"it differs from the magic, bytes 52 53 54 4D"),
+        (2, ..) => (b"generic type", b"it is not 1"),
+        (3, ..) => (b"latitude", b"it is not in -90..90"),
+        (4, ..) => (b"longitude", b"it is not in -180..180"),
+        (5, ..) => (b"polarization", b"it is not 1..4"),
+        (6, ..) => (b"scan type", b"it is not 0..6"),
+        (7, ..) => (b"start time", b"it is below 0"),
+        (8, _, 1) => (b"cut number", b"it is not 1..256"),
+        (8, ..) => (b"cut number", b"it is not 1, while scan type is 2"),
+        (9, 0, _) => (b"process mode", b"it is not 1..2"),
+        (9, 4, _) => (b"wave form", b"it is not 0..6"),
+        (9, 16, _) => (b"unfold mode", b"it is not 1..4"),
+        (9, 44, _) => (b"log resolution", b"it is not 1..5000"),
+        (9, 48, _) => (b"Doppler resolution", b"it is not 1..5000"),
+        (9, ..) => (b"phase mode", b"it is not 1..3"),
+        (10, ..) => (b"state", b"this state is not allowed here"),
+        (11, ..) => (b"spot blank", b"it is not 0..1"),
+        (12, _, 1) => (b"sequence", b"it is not 1 more than the radials before it"),
+        (12, ..) => (b"sequence", b"it would pass 65,536"),
+        (13, _, 1) => (
+            b"radial number",
+            b"it is not the radial's count in its cut, from 1",
+        ),
+        (13, ..) => (b"radial number", b"the count is over 1000"),
+        (14, ..) => (b"elevation number", b"it is not the cut's number"),
+        (15, ..) => (b"azimuth", b"it is not in 0..360"),
+        (16, ..) => (b"elevation", b"it is not in -2..90"),
+        (17, 28, _) => (b"seconds", b"it is below 0"),
+        (17, ..) => (b"microseconds", b"it is not 0..999,999"),
+        (18, ..) => (b"length of data", b"it is not 1..100,000"),
+        (19, _, 1) => (b"moment number", b"it is not 1..64"),
+        (19, ..) => (b"moment number", b"33 times it is over the length of data"),
+        (20, _, 1) => (b"type", b"it is not 1..64"),
+        (20, _, 2) => (b"type", b"it was seen before in this radial"),
+        (20, ..) => (b"type", b"its bit in the cut's moments mask is 0"),
+        (21, ..) => (b"scale", b"it is not 1..32,768"),
+        (22, ..) => (b"offset", b"it is not 0..32,768"),
+        (23, _, 1) => (
+            b"bin length",
+            b"it is not 1, while the type's bit in the cut's size mask is 0",
+        ),
+        (23, ..) => (
+            b"bin length",
+            b"it is not 2, while the type's bit in the cut's size mask is 1",
+        ),
+        (24, _, 1) => (b"length", b"it is not 1..32,768"),
+        (24, _, 2) => (b"length", b"it is not a multiple of bin length"),
+        (24, ..) => (
+            b"length",
+            b"it is wrong for the tiling: the last moment leaves no byte, any other 33 for each after it",
+        ),
+        _ => (b"state", b"bytes follow the volume that this radial closes"),
+    }
+}
+
+fn say_found(out: &impl Print, c: Clause, f: Field) -> io::Result<()> {
+    match c.number {
+        3 | 4 | 15 | 16 => say_angle(out, angle_of(f.found)),
+        _ => print_found(out, f),
+    }
+}
+
+fn say_clause(out: &impl Print, c: Clause, f: Field) -> io::Result<()> {
+    let (name, broken) = clause_words(c);
     word(out, b"field: ")?;
     word(out, name)?;
     part(out, b", ", f.size as u64)?;
     part(out, b" bytes at byte ", f.place as u64)?;
-    word(out, b"\nfound: ")
-}
-
-// From there on.
-fn say_broken(out: &impl Print, f: Field, words: &[u8]) -> io::Result<()> {
+    word(out, b"\nfound: ")?;
+    say_found(out, c, f)?;
     word(out, b", bytes")?;
     print_bytes(out, f)?;
     word(out, b"\nbroken: ")?;
-    word(out, words)?;
+    word(out, broken)?;
     newline(out)
-}
-
-fn row(out: &impl Print, f: Field, name: &[u8], words: &[u8]) -> io::Result<()> {
-    say_field(out, f, name)?;
-    print_found(out, f)?;
-    say_broken(out, f, words)
-}
-
-fn angle_row(out: &impl Print, f: Field, name: &[u8], words: &[u8]) -> io::Result<()> {
-    say_field(out, f, name)?;
-    say_angle(out, angle_of(f.found))?;
-    say_broken(out, f, words)
-}
-
-// ---- the table: by the number; by the field's place in its block, where a number has several fields; by which of the field's clauses
-// it is, where it has several. Each last row stands at `_`: no clause has a number, a place or a `which` that is not here.
-
-fn cut_number(out: &impl Print, f: Field, which: u8) -> io::Result<()> {
-    match which {
-        1 => row(out, f, b"cut number", b"it is not 1..256"),
-        _ => row(out, f, b"cut number", b"it is not 1, while scan type is 2"),
-    }
-}
-
-fn mode(out: &impl Print, f: Field, place: u8) -> io::Result<()> {
-    match place {
-        0 => row(out, f, b"process mode", b"it is not 1..2"),
-        4 => row(out, f, b"wave form", b"it is not 0..6"),
-        16 => row(out, f, b"unfold mode", b"it is not 1..4"),
-        44 => row(out, f, b"log resolution", b"it is not 1..5000"),
-        48 => row(out, f, b"Doppler resolution", b"it is not 1..5000"),
-        _ => row(out, f, b"phase mode", b"it is not 1..3"),
-    }
-}
-
-fn sequence(out: &impl Print, f: Field, which: u8) -> io::Result<()> {
-    match which {
-        1 => row(
-            out,
-            f,
-            b"sequence",
-            b"it is not 1 more than the radials before it",
-        ),
-        _ => row(out, f, b"sequence", b"it would pass 65,536"),
-    }
-}
-
-fn radial_number(out: &impl Print, f: Field, which: u8) -> io::Result<()> {
-    match which {
-        1 => row(
-            out,
-            f,
-            b"radial number",
-            b"it is not the radial's count in its cut, from 1",
-        ),
-        _ => row(out, f, b"radial number", b"the count is over 1000"),
-    }
-}
-
-fn time(out: &impl Print, f: Field, place: u8) -> io::Result<()> {
-    match place {
-        28 => row(out, f, b"seconds", b"it is below 0"),
-        _ => row(out, f, b"microseconds", b"it is not 0..999,999"),
-    }
-}
-
-fn moment_number(out: &impl Print, f: Field, which: u8) -> io::Result<()> {
-    match which {
-        1 => row(out, f, b"moment number", b"it is not 1..64"),
-        _ => row(
-            out,
-            f,
-            b"moment number",
-            b"33 times it is over the length of data",
-        ),
-    }
-}
-
-fn data_type(out: &impl Print, f: Field, which: u8) -> io::Result<()> {
-    match which {
-        1 => row(out, f, b"type", b"it is not 1..64"),
-        2 => row(out, f, b"type", b"it was seen before in this radial"),
-        _ => row(out, f, b"type", b"its bit in the cut's moments mask is 0"),
-    }
-}
-
-fn bin_length(out: &impl Print, f: Field, which: u8) -> io::Result<()> {
-    match which {
-        1 => row(
-            out,
-            f,
-            b"bin length",
-            b"it is not 1, while the type's bit in the cut's size mask is 0",
-        ),
-        _ => row(
-            out,
-            f,
-            b"bin length",
-            b"it is not 2, while the type's bit in the cut's size mask is 1",
-        ),
-    }
-}
-
-fn length(out: &impl Print, f: Field, which: u8) -> io::Result<()> {
-    match which {
-        1 => row(out, f, b"length", b"it is not 1..32,768"),
-        2 => row(out, f, b"length", b"it is not a multiple of bin length"),
-        _ => row(
-            out,
-            f,
-            b"length",
-            b"it is wrong for the tiling: the last moment leaves no byte, any other 33 for each after it",
-        ),
-    }
-}
-
-fn before_radials(out: &impl Print, c: Clause, f: Field) -> io::Result<()> {
-    let number = c.number;
-    match number {
-        1 => row(
-            out,
-            f,
-            b"magic",
-            b"it differs from the magic, bytes 52 53 54 4D",
-        ),
-        2 => row(out, f, b"generic type", b"it is not 1"),
-        3 => angle_row(out, f, b"latitude", b"it is not in -90..90"),
-        4 => angle_row(out, f, b"longitude", b"it is not in -180..180"),
-        5 => row(out, f, b"polarization", b"it is not 1..4"),
-        6 => row(out, f, b"scan type", b"it is not 0..6"),
-        7 => row(out, f, b"start time", b"it is below 0"),
-        8 => cut_number(out, f, c.which),
-        _ => mode(out, f, c.place),
-    }
-}
-
-fn in_radial(out: &impl Print, c: Clause, f: Field) -> io::Result<()> {
-    let number = c.number;
-    match number {
-        10 => row(out, f, b"state", b"this state is not allowed here"),
-        11 => row(out, f, b"spot blank", b"it is not 0..1"),
-        12 => sequence(out, f, c.which),
-        13 => radial_number(out, f, c.which),
-        14 => row(out, f, b"elevation number", b"it is not the cut's number"),
-        15 => angle_row(out, f, b"azimuth", b"it is not in 0..360"),
-        16 => angle_row(out, f, b"elevation", b"it is not in -2..90"),
-        17 => time(out, f, c.place),
-        18 => row(out, f, b"length of data", b"it is not 1..100,000"),
-        19 => moment_number(out, f, c.which),
-        _ => row(
-            out,
-            f,
-            b"state",
-            b"bytes follow the volume that this radial closes",
-        ),
-    }
-}
-
-fn in_moment(out: &impl Print, c: Clause, f: Field) -> io::Result<()> {
-    let number = c.number;
-    match number {
-        20 => data_type(out, f, c.which),
-        21 => row(out, f, b"scale", b"it is not 1..32,768"),
-        22 => row(out, f, b"offset", b"it is not 0..32,768"),
-        23 => bin_length(out, f, c.which),
-        _ => length(out, f, c.which),
-    }
-}
-
-// In three parts, since what a function costs its crate's check grows with the square of its rows.
-fn say_clause(out: &impl Print, c: Clause, f: Field) -> io::Result<()> {
-    let number = c.number;
-    match number {
-        1..=9 => before_radials(out, c, f),
-        20..=24 => in_moment(out, c, f),
-        _ => in_radial(out, c, f),
-    }
 }
 
 // ---- a file
@@ -320,8 +206,7 @@ fn say_value(out: &impl Print, told: Told) -> io::Result<()> {
 
 // The sentence for print.
 fn say_told(out: &impl Print, told: Told) -> io::Result<()> {
-    let gate = told.gate;
-    match gate {
+    match told.gate {
         Gate::BelowThreshold => word(out, b"no echo: code 0")?,
         Gate::RangeFolded => word(out, b"range folded: code 1")?,
         Gate::NotScanned => word(out, b"the radar did not look: code 2")?,

@@ -1,6 +1,8 @@
 // Writes volumes of several shapes, one block at a time, and their indexes; then drives each refusal of the writer and
-// of the index once (document 01, "Writing" and "The house index").
+// of the index once.
 #![tactic(auto)]
+
+ghost use Rattle.std.specs.Prelude.{◌<◌, ◌^◌, length};
 
 mod many;
 mod records;
@@ -8,10 +10,10 @@ mod refusals;
 mod telling;
 mod volumes;
 
-use crate::telling::{print_bytes, yes};
-use crate::volumes::{put_cut, put_front, put_pair, put_radials};
-use index::Answer;
-use printing::{first, newline, number, refused, sum, word};
+use crate::records::Moments;
+use crate::telling::{print_bytes, print_index_answer, yes};
+use crate::volumes::{put_front, put_pair, put_radials};
+use printing::{first, newline, number, sum, word};
 use std::io;
 use walk::due::Walk;
 
@@ -34,21 +36,14 @@ fn print_index(out: &impl Print, file: &[u8]) -> io::Result<()> {
     let mut room = [0xa5u8; 200];
     let answer = index::write(file, &mut room);
     word(out, b"index")?;
-    match answer {
-        Answer::Written(n) => {
-            print_written(out, file, &mut room, n)?;
-        }
-        Answer::Refused(n) => {
-            refused(out, n)?;
-        }
-    }
+    print_index_answer(out, answer, |n| print_written(out, file, &mut room, n))?;
     newline(out)
 }
 
 fn print_volume(
     out: &impl Print,
     scan_type: u32,
-    moments: u8,
+    moments: Moments,
     room: &[u8],
     w: Walk,
 ) -> io::Result<()> {
@@ -67,63 +62,49 @@ fn print_volume(
 }
 
 // One cut of two radials.
-fn pair(out: &impl Print, scan_type: u32, moments: u8) -> io::Result<()> {
+fn pair(out: &impl Print, scan_type: u32, moments: Moments) -> io::Result<()> {
     let mut room = [0xa5u8; 2500];
     let w = put_pair(out, &mut room, scan_type, moments)?;
     print_volume(out, scan_type, moments, &room, w)
 }
 
-// One cut of three radials, with the states of scan types 2 and 5.
-fn upright(out: &impl Print, scan_type: u32, moments: u8) -> io::Result<()> {
-    let mut room = [0xa5u8; 2500];
-    let w = put_front(out, &mut room, scan_type, 1)?;
-    let v = put_radials(out, w, &mut room, moments, 1, 5, 6)?;
-    print_volume(out, scan_type, moments, &room, v)
-}
-
-fn three_cuts(out: &impl Print, scan_type: u32, moments: u8) -> io::Result<()> {
-    let mut room = [0xa5u8; 2500];
-    let mut w = put_front(out, &mut room, scan_type, 3)?;
-    w = put_cut(out, w, &mut room)?;
-    w = put_cut(out, w, &mut room)?;
-    w = put_radials(out, w, &mut room, moments, 1, 3, 2)?;
-    w = put_radials(out, w, &mut room, moments, 2, 0, 2)?;
-    w = put_radials(out, w, &mut room, moments, 3, 0, 4)?;
+// Cuts of three radials each, by their states, in a room of ROOM bytes.
+fn triples<const ROOM: usize>(
+    out: &impl Print,
+    scan_type: u32,
+    moments: Moments,
+    cuts: &[[u8; 3]],
+) -> io::Result<()>
+    requires bytes { ROOM < 2 ^ 63 }
+    requires few { length cuts.now < 256 }
+{
+    let mut room = [0xa5u8; ROOM];
+    let mut w = put_front(out, &mut room, scan_type, cuts.len() as u32)?;
+    for (i, states) in cuts.iter().enumerate() {
+        let cut = i as u32;
+        w = put_radials(out, w, &mut room, moments, cut + 1, 3 * cut + 1, states)?;
+    }
     print_volume(out, scan_type, moments, &room, w)
 }
 
-// Type 5 in six layers, each with the states of its own (document 02, #103).
-fn six_layers(out: &impl Print, moments: u8) -> io::Result<()> {
-    let mut room = [0xa5u8; 4000];
-    let mut w = put_front(out, &mut room, 5, 6)?;
-    w = put_cut(out, w, &mut room)?;
-    w = put_cut(out, w, &mut room)?;
-    w = put_cut(out, w, &mut room)?;
-    w = put_cut(out, w, &mut room)?;
-    w = put_cut(out, w, &mut room)?;
-    w = put_radials(out, w, &mut room, moments, 1, 5, 6)?;
-    w = put_radials(out, w, &mut room, moments, 2, 5, 6)?;
-    w = put_radials(out, w, &mut room, moments, 3, 5, 6)?;
-    w = put_radials(out, w, &mut room, moments, 4, 5, 6)?;
-    w = put_radials(out, w, &mut room, moments, 5, 5, 6)?;
-    w = put_radials(out, w, &mut room, moments, 6, 5, 6)?;
-    print_volume(out, 5, moments, &room, w)
+fn three_cuts(out: &impl Print, scan_type: u32, moments: Moments) -> io::Result<()> {
+    triples::<2500>(out, scan_type, moments, &[[3, 1, 2], [0, 1, 2], [0, 1, 4]])
 }
 
 fn main(rt: HostRuntime) -> io::Result<()> {
-    pair(&rt, 0, 1)?;
-    pair(&rt, 1, 2)?;
-    pair(&rt, 3, 3)?;
-    pair(&rt, 4, 1)?;
-    pair(&rt, 6, 2)?;
-    upright(&rt, 2, 3)?;
-    upright(&rt, 5, 1)?;
-    three_cuts(&rt, 0, 3)?;
-    three_cuts(&rt, 1, 1)?;
-    three_cuts(&rt, 3, 2)?;
-    three_cuts(&rt, 4, 3)?;
-    three_cuts(&rt, 6, 1)?;
-    six_layers(&rt, 1)?;
+    pair(&rt, 0, Moments::Narrow)?;
+    pair(&rt, 1, Moments::Wide)?;
+    pair(&rt, 3, Moments::Both)?;
+    pair(&rt, 4, Moments::Narrow)?;
+    pair(&rt, 6, Moments::Wide)?;
+    triples::<2500>(&rt, 2, Moments::Both, &[[5, 1, 6]])?;
+    triples::<2500>(&rt, 5, Moments::Narrow, &[[5, 1, 6]])?;
+    three_cuts(&rt, 0, Moments::Both)?;
+    three_cuts(&rt, 1, Moments::Narrow)?;
+    three_cuts(&rt, 3, Moments::Wide)?;
+    three_cuts(&rt, 4, Moments::Both)?;
+    three_cuts(&rt, 6, Moments::Narrow)?;
+    triples::<4000>(&rt, 5, Moments::Narrow, &[[5, 1, 6]; 6])?;
     many::run(&rt)?;
     refusals::run(&rt)
 }

@@ -1,10 +1,11 @@
 // Volumes of many cuts, two radials in each, with their indexes in both forms; and, with no room held, the longest volumes: 256 cuts
-// of 256 radials (document 02, #106), and cuts of 1000, which leave few radials to the last ones (document 02, #110).
+// of 256 radials, and cuts of 1000, which leave few radials to the last ones.
+ghost use Rattle.std.specs.Prelude.{◌<◌};
+
 use crate::records;
-use crate::records::Facts;
-use crate::telling::{print_bytes, yes};
-use crate::volumes::{put_cut, put_front, put_radial};
-use index::Answer;
+use crate::records::{Facts, Moments};
+use crate::telling::{print_bytes, print_index_answer, yes};
+use crate::volumes::{put_front, put_radials};
 use printing::{behind, first, newline, number, print_reading, refused, sum, word};
 use reading::step::Step;
 use reading::take;
@@ -19,15 +20,12 @@ fn state(cuts: u16, cut: u16, number: u16, last: u16) -> u8 {
     if 1 < number {
         return 1;
     }
-    match cut {
-        1 => 3,
-        _ => 0,
-    }
+    if cut == 1 { 3 } else { 0 }
 }
 
 fn facts(cuts: u16, cut: u16, number: u16, last: u16, sequence: u32) -> Facts {
     Facts {
-        moments: 1,
+        moments: Moments::Narrow,
         state: state(cuts, cut, number, last),
         sequence,
         number: number as u32,
@@ -35,24 +33,13 @@ fn facts(cuts: u16, cut: u16, number: u16, last: u16, sequence: u32) -> Facts {
     }
 }
 
-fn put_cuts(out: &impl Print, w: Walk, room: &mut [u8], cuts: u16) -> io::Result<Walk> {
-    let mut v = w;
-    let mut cut = 1;
-    while cut < cuts {
-        v = put_cut(out, v, room)?;
-        cut += 1;
-    }
-    Ok(v)
-}
-
+// Two radials in each cut.
 fn put_layers(out: &impl Print, w: Walk, room: &mut [u8], cuts: u16) -> io::Result<Walk> {
     let mut v = w;
-    let mut cut = 0;
-    while cut < cuts {
-        let before = 2 * (cut as u32);
-        cut += 1;
-        v = put_radial(out, v, room, facts(cuts, cut, 1, 2, before + 1))?;
-        v = put_radial(out, v, room, facts(cuts, cut, 2, 2, before + 2))?;
+    for cut in 1..=cuts {
+        let sequence = 2 * (cut as u32) - 1;
+        let states = [state(cuts, cut, 1, 2), state(cuts, cut, 2, 2)];
+        v = put_radials(out, v, room, Moments::Narrow, cut as u32, sequence, &states)?;
     }
     Ok(v)
 }
@@ -91,21 +78,13 @@ fn print_index(out: &impl Print, file: &[u8]) -> io::Result<()> {
     let mut room = [0xa5u8; 4700];
     let answer = index::write(file, &mut room);
     word(out, b"index")?;
-    match answer {
-        Answer::Written(n) => {
-            print_forms(out, file, first(&room, n))?;
-        }
-        Answer::Refused(n) => {
-            refused(out, n)?;
-        }
-    }
+    print_index_answer(out, answer, |n| print_forms(out, file, first(&room, n)))?;
     newline(out)
 }
 
 fn many(out: &impl Print, cuts: u16) -> io::Result<()> {
     let mut room = [0xa5u8; 118000];
     let mut w = put_front(out, &mut room, 0, cuts as u32)?;
-    w = put_cuts(out, w, &mut room, cuts)?;
     w = put_layers(out, w, &mut room, cuts)?;
     let file = first(&room, w.at);
     word(out, b"cuts")?;
@@ -127,19 +106,8 @@ fn onward(out: &impl Print, step: Step, w: Walk) -> io::Result<Walk> {
             number(out, place as u64)?;
             Ok(w)
         }
-        Step::Open(_) => Ok(w),
-        Step::Complete => Ok(w),
+        Step::Open(_) | Step::Complete => Ok(w),
     }
-}
-
-fn take_cuts(out: &impl Print, w: Walk, cuts: u16) -> io::Result<Walk> {
-    let mut v = w;
-    let mut cut = 0;
-    while cut < cuts {
-        v = onward(out, take::cut(records::cut(), v), v)?;
-        cut += 1;
-    }
-    Ok(v)
 }
 
 // A radial and, where it is taken, its moment of one-byte gates, by the masks of every cut here.
@@ -159,18 +127,20 @@ fn behind_cuts(out: &impl Print, cuts: u16) -> io::Result<Walk> {
     w = onward(out, take::generic(records::generic(), w), w)?;
     w = onward(out, take::site(records::site(), w), w)?;
     w = onward(out, take::task(records::task(0, cuts as u32), w), w)?;
-    take_cuts(out, w, cuts)
+    for _ in 0..cuts {
+        w = onward(out, take::cut(records::cut(), w), w)?;
+    }
+    Ok(w)
 }
 
-// And behind so many radials of 256 cuts that have 256 each.
-fn behind_radials(out: &impl Print, w: Walk, radials: u16) -> io::Result<Walk> {
+// And behind so many radials, of cuts that have so many each, as far as they go.
+fn behind_radials(out: &impl Print, w: Walk, cuts: u16, each: u16, radials: u16) -> io::Result<Walk>
+    requires { 0 < each }
+{
     let mut v = w;
-    let mut n = 0;
-    while n < radials {
-        let cut = n / 256 + 1;
-        let number = n % 256 + 1;
-        n += 1;
-        v = take_radial(out, v, facts(256, cut, number, 256, n as u32))?;
+    for n in 0..radials {
+        let f = facts(cuts, n / each + 1, n % each + 1, each, n as u32 + 1);
+        v = take_radial(out, v, f)?;
     }
     Ok(v)
 }
@@ -178,10 +148,8 @@ fn behind_radials(out: &impl Print, w: Walk, radials: u16) -> io::Result<Walk> {
 // The bytes and the whole radials up to here, and whether the volume is over.
 fn print_walk(out: &impl Print, w: Walk) -> io::Result<()> {
     number(out, w.at as u64)?;
-    let count = w.count;
-    number(out, count.whole as u64)?;
-    let due = w.due;
-    yes(out, is_end(due))?;
+    number(out, w.count.whole as u64)?;
+    yes(out, is_end(w.due))?;
     newline(out)
 }
 
@@ -195,7 +163,7 @@ fn try_radial(out: &impl Print, label: &[u8], w: Walk, f: Facts) -> io::Result<W
 
 // The last of 65,536 radials closes the volume; one that does not is refused, and so is a number behind the last.
 fn longest(out: &impl Print) -> io::Result<()> {
-    let w = behind_radials(out, behind_cuts(out, 256)?, 65535)?;
+    let w = behind_radials(out, behind_cuts(out, 256)?, 256, 256, 65535)?;
     word(out, b"65535 radials:")?;
     print_walk(out, w)?;
     try_radial(
@@ -219,22 +187,9 @@ fn longest(out: &impl Print) -> io::Result<()> {
     Ok(())
 }
 
-// Behind so many radials of 68 cuts that have 1000 each, as far as they go.
-fn behind_long_cuts(out: &impl Print, w: Walk, radials: u16) -> io::Result<Walk> {
-    let mut v = w;
-    let mut n = 0;
-    while n < radials {
-        let cut = n / 1000 + 1;
-        let number = n % 1000 + 1;
-        n += 1;
-        v = take_radial(out, v, facts(68, cut, number, 1000, n as u32))?;
-    }
-    Ok(v)
-}
-
 // The last that a cut can have closes it; one that does not is refused.
 fn long_cut(out: &impl Print, w: Walk) -> io::Result<()> {
-    let v = behind_long_cuts(out, w, 999)?;
+    let v = behind_radials(out, w, 68, 1000, 999)?;
     word(out, b"999 radials of a cut:")?;
     print_walk(out, v)?;
     try_radial(
@@ -251,7 +206,7 @@ fn long_cut(out: &impl Print, w: Walk) -> io::Result<()> {
 fn crowded(out: &impl Print) -> io::Result<()> {
     let w = behind_cuts(out, 68)?;
     long_cut(out, w)?;
-    let mut v = behind_long_cuts(out, w, 65531)?;
+    let mut v = behind_radials(out, w, 68, 1000, 65531)?;
     word(out, b"65531 radials, in cut 66 of 68:")?;
     print_walk(out, v)?;
     try_radial(out, b"40, radial 65532", v, facts(68, 66, 532, 1000, 65532))?;
@@ -291,11 +246,9 @@ fn crowded(out: &impl Print) -> io::Result<()> {
 }
 
 pub(crate) fn run(out: &impl Print) -> io::Result<()> {
-    many(out, 50)?;
-    many(out, 51)?;
-    many(out, 120)?;
-    many(out, 255)?;
-    many(out, 256)?;
+    for cuts in [50, 51, 120, 255, 256] {
+        many(out, cuts)?;
+    }
     longest(out)?;
     crowded(out)
 }

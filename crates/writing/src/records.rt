@@ -44,30 +44,36 @@ pub(crate) fn cut() -> Cut {
     r
 }
 
-// What is told apart from radial to radial. Its moments: 1 is one of one-byte gates, 2 one of two-byte gates, 3 both.
+// The moments of a radial: one of one-byte gates, one of two-byte gates, or both.
+#[derive(Clone, Copy, PartialEq)]
+pub(crate) enum Moments {
+    Narrow = 1,
+    Wide = 2,
+    Both = 3,
+}
+
+impl Moments {
+    fn bytes(self) -> u32 {
+        match self {
+            Moments::Narrow => 36,
+            Moments::Wide => 40,
+            Moments::Both => 76,
+        }
+    }
+
+    fn count(self) -> u32 {
+        if self == Moments::Both { 2 } else { 1 }
+    }
+}
+
+// What is told apart from radial to radial.
 #[derive(Clone, Copy)]
 pub(crate) struct Facts {
-    pub(crate) moments: u8,
+    pub(crate) moments: Moments,
     pub(crate) state: u8,
     pub(crate) sequence: u32,
     pub(crate) number: u32,
     pub(crate) cut: u32,
-}
-
-// The bytes of a radial's moments.
-fn length_of_data(moments: u8) -> u32 {
-    match moments {
-        1 => 36,
-        2 => 40,
-        _ => 76,
-    }
-}
-
-fn moment_number(moments: u8) -> u32 {
-    match moments {
-        1..=2 => 1,
-        _ => 2,
-    }
 }
 
 // Azimuth 0.5, elevation 1.5.
@@ -80,8 +86,8 @@ pub(crate) fn radial(f: Facts) -> Radial {
     r.azimuth = 0x3f00_0000;
     r.elevation = 0x3fc0_0000;
     r.seconds = 1445000001;
-    r.length_of_data = length_of_data(f.moments);
-    r.moment_number = moment_number(f.moments);
+    r.length_of_data = f.moments.bytes();
+    r.moment_number = f.moments.count();
     r
 }
 

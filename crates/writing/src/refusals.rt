@@ -1,11 +1,10 @@
 // Each refusal of the writer and of the index, once: the answer, and that the room and the state stay as they were.
 use crate::records;
-use crate::records::Facts;
-use crate::telling::{onward, print_put, print_rooms};
-use crate::volumes::{put_cut, put_front, put_pair, put_radial, put_start, put_task};
+use crate::records::{Facts, Moments};
+use crate::telling::{onward, print_index_answer, print_rooms, try_put};
+use crate::volumes::{put_front, put_pair, put_radial, put_start, put_task};
 use cut::Cut;
-use index::Answer;
-use printing::{first, newline, number, refused, sum, word};
+use printing::{first, newline, number, sum, word};
 use radial::Radial;
 use std::io;
 use walk::due::Walk;
@@ -13,7 +12,7 @@ use walk::due::Walk;
 // A radial with one moment of one-byte gates.
 fn narrow(state: u8, sequence: u32, number: u32, cut: u32) -> Facts {
     Facts {
-        moments: 1,
+        moments: Moments::Narrow,
         state,
         sequence,
         number,
@@ -33,9 +32,13 @@ fn try_header(
     room: &mut [u8],
     header: Radial,
 ) -> io::Result<()> {
-    let before = sum(room);
-    let p = writer::put_radial(w, room, header);
-    print_put(out, label, w, before, p, room)
+    try_put(
+        out,
+        label,
+        w,
+        room,
+        |w, room| writer::put_radial(w, room, header),
+    )
 }
 
 // A volume's first radial onto a state and a room as they are given.
@@ -45,7 +48,7 @@ fn try_radial(out: &impl Print, label: &[u8], w: Walk, room: &mut [u8]) -> io::R
 
 fn after_the_end(out: &impl Print) -> io::Result<()> {
     let mut room = [0xa5u8; 1000];
-    let w = put_pair(out, &mut room, 0, 1)?;
+    let w = put_pair(out, &mut room, 0, Moments::Narrow)?;
     try_radial(out, b"25, a radial after the end", w, &mut room)
 }
 
@@ -74,9 +77,14 @@ fn try_task(
     scan_type: u32,
     cuts: u32,
 ) -> io::Result<()> {
-    let before = sum(room);
-    let p = writer::put_task(w, room, records::task(scan_type, cuts));
-    print_put(out, label, w, before, p, room)
+    let task = records::task(scan_type, cuts);
+    try_put(
+        out,
+        label,
+        w,
+        room,
+        |w, room| writer::put_task(w, room, task),
+    )
 }
 
 fn too_many_cuts(out: &impl Print) -> io::Result<()> {
@@ -103,13 +111,12 @@ fn too_many_cuts(out: &impl Print) -> io::Result<()> {
     )
 }
 
-// Type 2 in two layers; in type 5 of two layers, the first closed by 2, and the second opened by 0 (document 02, #103).
+// Type 2 in two layers; in type 5 of two layers, the first closed by 2, and the second opened by 0.
 fn layers(out: &impl Print) -> io::Result<()> {
     let mut room = [0xa5u8; 1500];
     let u = put_start(out, &mut room)?;
     try_task(out, b"8, type 2 in two layers", u, &mut room, 2, 2)?;
     let mut w = put_front(out, &mut room, 5, 2)?;
-    w = put_cut(out, w, &mut room)?;
     w = put_radial(out, w, &mut room, narrow(5, 1, 1, 1))?;
     let closing = records::radial(narrow(2, 2, 2, 1));
     try_header(out, b"10, a layer closed by 2", w, &mut room, closing)?;
@@ -119,12 +126,10 @@ fn layers(out: &impl Print) -> io::Result<()> {
 }
 
 fn try_cut(out: &impl Print, label: &[u8], w: Walk, room: &mut [u8], cut: Cut) -> io::Result<()> {
-    let before = sum(room);
-    let p = writer::put_cut(w, room, cut);
-    print_put(out, label, w, before, p, room)
+    try_put(out, label, w, room, |w, room| writer::put_cut(w, room, cut))
 }
 
-// A cut of no type, which no radial can be in (document 02, #110), in a room that ends before it.
+// A cut of no type, which no radial can be in, in a room that ends before it.
 fn no_type(out: &impl Print) -> io::Result<()> {
     let mut room = [0xa5u8; 416];
     let mut cut = records::cut();
@@ -184,19 +189,16 @@ fn odd_rest(out: &impl Print) -> io::Result<()> {
     let mut room = [0xa5u8; 736];
     let v = put_front(out, &mut room, 0, 1)?;
     let mut both = narrow(3, 1, 1, 1);
-    both.moments = 3;
+    both.moments = Moments::Both;
     let w = onward(out, writer::put_radial(v, &mut room, records::radial(both)))?;
     let mut header = records::moment(2, 1);
     header.length = 5;
-    let before = sum(&room);
-    let p = writer::put_moment(w, &mut room, header);
-    print_put(
+    try_put(
         out,
         b"40 ahead of 33, seven bytes for a two-byte type",
         w,
-        before,
-        p,
-        &room,
+        &mut room,
+        |w, room| writer::put_moment(w, room, header),
     )
 }
 
@@ -205,9 +207,13 @@ fn short_data(out: &impl Print) -> io::Result<()> {
     let u = put_front(out, &mut room, 0, 1)?;
     let v = onward(out, writer::put_radial(u, &mut room, opening()))?;
     let w = onward(out, writer::put_moment(v, &mut room, records::moment(2, 1)))?;
-    let before = sum(&room);
-    let p = writer::put_data(w, &mut room, b"\x05\x06\x07");
-    print_put(out, b"35, three bytes of four", w, before, p, &room)
+    try_put(
+        out,
+        b"35, three bytes of four",
+        w,
+        &mut room,
+        |w, room| writer::put_data(w, room, b"\x05\x06\x07"),
+    )
 }
 
 // States whose count of bytes does not agree with the room.
@@ -234,30 +240,23 @@ fn other_blocks(out: &impl Print) -> io::Result<()> {
     try_radial(out, b"37, a cut of no type", w, &mut room)
 }
 
-fn print_answer(out: &impl Print, answer: Answer) -> io::Result<()> {
-    match answer {
-        Answer::Written(n) => {
-            word(out, b" written")?;
-            number(out, n as u64)
-        }
-        Answer::Refused(n) => { refused(out, n) }
-    }
-}
-
 // The room of an index, before and after what is refused.
 fn try_index(out: &impl Print, label: &[u8], file: &[u8], room: &mut [u8]) -> io::Result<()> {
     let before = sum(room);
     let answer = index::write(file, room);
     word(out, label)?;
     word(out, b":")?;
-    print_answer(out, answer)?;
+    print_index_answer(out, answer, |n| {
+        word(out, b" written")?;
+        number(out, n as u64)
+    })?;
     print_rooms(out, before, room)?;
     newline(out)
 }
 
 fn index_refusals(out: &impl Print) -> io::Result<()> {
     let mut file = [0xa5u8; 1000];
-    let w = put_pair(out, &mut file, 0, 1)?;
+    let w = put_pair(out, &mut file, 0, Moments::Narrow)?;
     let mut room = [0xa5u8; 22];
     try_index(
         out,

@@ -12,23 +12,30 @@ pub(crate) fn yes(out: &impl Print, b: bool) -> io::Result<()> {
     }
 }
 
-fn print_byte(out: &impl Print, byte: u8) -> io::Result<()> {
-    print!(out; "{byte:02x}")
-}
-
 pub(crate) fn print_bytes(out: &impl Print, s: &[u8]) -> io::Result<()> {
-    let mut i = 0;
-    while i < s.len() {
-        print_byte(out, s[i])?;
-        i += 1;
+    for byte in s {
+        print!(out; "{byte:02x}")?;
     }
     Ok(())
 }
 
+// The answer to an index: one that was written is told by its length.
+pub(crate) fn print_index_answer<F: FnOnce(usize) -> io::Result<()>>(
+    out: &impl Print,
+    answer: index::Answer,
+    written: F,
+) -> io::Result<()>
+    requires { F.IsAlwaysCallable written }
+{
+    match answer {
+        index::Answer::Written(n) => written(n),
+        index::Answer::Refused(n) => refused(out, n),
+    }
+}
+
 // The state that a put leaves. Of an answer only a refusal is printed.
 pub(crate) fn onward(out: &impl Print, p: Put) -> io::Result<Walk> {
-    let answer = p.answer;
-    if let Answer::Refused(n, place) = answer {
+    if let Answer::Refused(n, place) = p.answer {
         refused(out, n)?;
         number(out, place as u64)?;
     }
@@ -43,17 +50,20 @@ pub(crate) fn print_rooms(out: &impl Print, before: u32, room: &[u8]) -> io::Res
 }
 
 // What a put that is to be refused answers; then, before and after it, the room's sum and the state's count of bytes.
-pub(crate) fn print_put(
+pub(crate) fn try_put<F: FnOnce(Walk, &mut [u8]) -> Put>(
     out: &impl Print,
     label: &[u8],
     w: Walk,
-    before: u32,
-    p: Put,
-    room: &[u8],
-) -> io::Result<()> {
+    room: &mut [u8],
+    put: F,
+) -> io::Result<()>
+    requires { F.IsAlwaysCallable put }
+{
+    let before = sum(room);
+    let answer = put(w, room);
     word(out, label)?;
     word(out, b":")?;
-    let after = onward(out, p)?;
+    let after = onward(out, answer)?;
     print_rooms(out, before, room)?;
     word(out, b", written")?;
     number(out, w.at as u64)?;

@@ -1,8 +1,8 @@
 // The volumes, written one block at a time.
-ghost use Rattle.std.specs.Prelude.{◌≤◌};
+ghost use Rattle.std.specs.Prelude.{◌+◌, ◌^◌, ◌<◌, length};
 
 use crate::records;
-use crate::records::Facts;
+use crate::records::{Facts, Moments};
 use crate::telling::onward;
 use std::io;
 use walk::due::Walk;
@@ -29,94 +29,72 @@ pub(crate) fn put_task(
     )
 }
 
-pub(crate) fn put_cut(out: &impl Print, w: Walk, room: &mut [u8]) -> io::Result<Walk> {
-    onward(out, writer::put_cut(w, room, records::cut()))
-}
-
-// The blocks up to the first cut's.
+// The blocks up to the radials.
 pub(crate) fn put_front(
     out: &impl Print,
     room: &mut [u8],
     scan_type: u32,
     cuts: u32,
 ) -> io::Result<Walk> {
-    let w = put_start(out, room)?;
-    let v = put_task(out, w, room, scan_type, cuts)?;
-    put_cut(out, v, room)
+    let start = put_start(out, room)?;
+    let mut w = put_task(out, start, room, scan_type, cuts)?;
+    for _ in 0..cuts {
+        w = onward(out, writer::put_cut(w, room, records::cut()))?;
+    }
+    Ok(w)
 }
 
-fn put_narrow(out: &impl Print, w: Walk, room: &mut [u8], last: u8) -> io::Result<Walk> {
-    let v = onward(out, writer::put_moment(w, room, records::moment(2, 1)))?;
-    let data = [0, 1, 66, last];
-    onward(out, writer::put_data(v, room, &data))
-}
-
-fn put_wide(out: &impl Print, w: Walk, room: &mut [u8], last: u8) -> io::Result<Walk> {
-    let v = onward(out, writer::put_moment(w, room, records::moment(4, 2)))?;
-    let data = [0, 0, 5, 1, 66, 0, last, 2];
-    onward(out, writer::put_data(v, room, &data))
+// A moment, by its type, the bytes of a gate and its data.
+fn put_moment(
+    out: &impl Print,
+    w: Walk,
+    room: &mut [u8],
+    data_type: u32,
+    bytes: u16,
+    data: &[u8],
+) -> io::Result<Walk> {
+    let header = records::moment(data_type, bytes);
+    let v = onward(out, writer::put_moment(w, room, header))?;
+    onward(out, writer::put_data(v, room, data))
 }
 
 // A radial, with its sequence number's lowest byte in the last gate of each of its moments.
 pub(crate) fn put_radial(out: &impl Print, w: Walk, room: &mut [u8], f: Facts) -> io::Result<Walk> {
-    let v = onward(out, writer::put_radial(w, room, records::radial(f)))?;
-    let moments = f.moments;
+    let mut v = onward(out, writer::put_radial(w, room, records::radial(f)))?;
     let last = (f.sequence % 256) as u8;
-    match moments {
-        1 => put_narrow(out, v, room, last),
-        2 => put_wide(out, v, room, last),
-        _ => {
-            let u = put_narrow(out, v, room, last)?;
-            put_wide(out, u, room, last)
-        }
+    if f.moments != Moments::Wide {
+        v = put_moment(out, v, room, 2, 1, &[0, 1, 66, last])?;
     }
+    if f.moments != Moments::Narrow {
+        v = put_moment(out, v, room, 4, 2, &[0, 0, 5, 1, 66, 0, last, 2])?;
+    }
+    Ok(v)
 }
 
-// The sequence number of a cut's first radial, where each cut has three.
-fn first_sequence(cut: u32) -> u32
-    ensures { result ≤ 16 }
-{
-    match cut {
-        1..=6 => 3 * cut - 2,
-        _ => 1,
-    }
-}
-
-// The three radials of a cut, by the states of the first and the last.
+// The radials of a cut, by their states, from a sequence number on.
 pub(crate) fn put_radials(
     out: &impl Print,
     w: Walk,
     room: &mut [u8],
-    moments: u8,
+    moments: Moments,
     cut: u32,
-    opening: u8,
-    closing: u8,
-) -> io::Result<Walk> {
-    let sequence = first_sequence(cut);
-    let first = Facts {
-        moments,
-        state: opening,
-        sequence,
-        number: 1,
-        cut,
-    };
-    let second = Facts {
-        moments,
-        state: 1,
-        sequence: sequence + 1,
-        number: 2,
-        cut,
-    };
-    let third = Facts {
-        moments,
-        state: closing,
-        sequence: sequence + 2,
-        number: 3,
-        cut,
-    };
-    let v = put_radial(out, w, room, first)?;
-    let u = put_radial(out, v, room, second)?;
-    put_radial(out, u, room, third)
+    sequence: u32,
+    states: &[u8],
+) -> io::Result<Walk>
+    requires { sequence + length states.now < 2 ^ 32 }
+{
+    let mut v = w;
+    for (i, state) in states.iter().enumerate() {
+        let facts = Facts {
+            moments,
+            state: *state,
+            sequence: sequence + i as u32,
+            number: i as u32 + 1,
+            cut,
+        };
+        v = put_radial(out, v, room, facts)?;
+    }
+    Ok(v)
 }
 
 // One cut of two radials.
@@ -124,23 +102,8 @@ pub(crate) fn put_pair(
     out: &impl Print,
     room: &mut [u8],
     scan_type: u32,
-    moments: u8,
+    moments: Moments,
 ) -> io::Result<Walk> {
     let w = put_front(out, room, scan_type, 1)?;
-    let first = Facts {
-        moments,
-        state: 3,
-        sequence: 1,
-        number: 1,
-        cut: 1,
-    };
-    let second = Facts {
-        moments,
-        state: 4,
-        sequence: 2,
-        number: 2,
-        cut: 1,
-    };
-    let v = put_radial(out, w, room, first)?;
-    put_radial(out, v, room, second)
+    put_radials(out, w, room, moments, 1, 1, &[3, 4])
 }

@@ -1,9 +1,0 @@
--- The place never goes back. Assumes nothing.
-use Rattle.std.proofs.Common.{◌≤◌}
-use Rattle.why.proofs.questions.Given as goal
-
-abbrev pub invariant-loop-left : goal.invariant-loop-left
-invariant-loop-left g l = l.from ≤ l.at
-
-abbrev pub decreases-loop-left : goal.decreases-loop-left
-decreases-loop-left g l = l.left
