@@ -11,184 +11,160 @@ mod rooms;
 mod telling;
 mod words;
 
-ghost use Rattle.std.specs.Prelude.{◌≤◌, ◌<◌, length, IfOk};
+ghost use Rattle.std.specs.Prelude.{◌≤◌, ◌<◌, length, IfOk, IfSome, IsNone};
 
-use crate::rooms::{unpack_eights, unpack_fours};
+use crate::rooms::{ListRooms, unpack};
 use crate::telling::print_answer;
 use crate::words::{say_answer, say_written};
-use printing::{behind, first, read_full, word};
+use printing::{first, read_full, word};
 use std::io;
 use std::io::Read;
 
-// A list in rooms that have as many entries as it says. What is wanted is 1 for the command line.
-fn ask(
-    out: &impl Print,
-    file: &[u8],
-    index: &[u8],
-    list: &[u8],
-    wanted: u32,
-    radials: &mut [usize],
-    types: &mut [u32],
-    gates: &mut [usize],
-    kinds: &mut [u8],
-    hundredths: &mut [i32],
-) -> io::Result<()> {
-    let from_radials = behind(list, 20);
-    let from_types = behind(from_radials, 8 * radials.len());
-    let from_gates = behind(from_types, 4 * types.len());
-    unpack_eights(from_radials, radials);
-    unpack_fours(from_types, types);
-    unpack_eights(from_gates, gates);
-    if wanted == 1 {
-        say_answer(out, file, index, radials, types, gates, kinds, hundredths)
-    } else {
-        print_answer(out, file, index, radials, types, gates, kinds, hundredths)
-    }
+// How a list's answers are printed.
+#[derive(Clone, Copy)]
+enum Output {
+    // For the command line.
+    Words,
+    Line,
 }
 
-// The rooms may be longer than the list says.
-fn ask_in(
+// What the lists of a group are asked of.
+#[derive(Clone, Copy)]
+struct Asked<'a> {
+    file: &'a [u8],
+    index: &'a [u8],
+    output: Output,
+}
+
+// Nothing follows what the input ends in.
+fn cut_short<'a>(out: &impl Print) -> io::Result<Option<&'a [u8]>>
+    ensures { IfOk result (λ rest. IsNone rest) }
+{
+    word(out, b"cut short\n")?;
+    Ok(None)
+}
+
+// The list at the front of the input, and the input behind it; nothing, where the input ends in the list. The rooms may be longer than
+// the list says.
+fn list<'a>(
     out: &impl Print,
-    file: &[u8],
-    index: &[u8],
-    list: &[u8],
-    wanted: u32,
-    radials: &mut [usize],
-    types: &mut [u32],
-    gates: &mut [usize],
-    kinds: &mut [u8],
-    hundredths: &mut [i32],
-) -> io::Result<()> {
-    let r = le::u32_at(list, 0) as usize;
-    let t = le::u32_at(list, 4) as usize;
-    let g = le::u32_at(list, 8) as usize;
-    let k = le::u32_at(list, 12) as usize;
-    let h = le::u32_at(list, 16) as usize;
+    asked: Asked,
+    input: &'a [u8],
+    rooms: ListRooms,
+) -> io::Result<Option<&'a [u8]>>
+    ensures { IfOk result (λ rest. IfSome rest (λ s. length s.now ≤ length input.now)) }
+{
+    let Some((head, rest)) = input.split_at_checked(20) else {
+        return cut_short(out);
+    };
+    let r = le::u32_at(head, 0) as usize;
+    let t = le::u32_at(head, 4) as usize;
+    let g = le::u32_at(head, 8) as usize;
+    let k = le::u32_at(head, 12) as usize;
+    let h = le::u32_at(head, 16) as usize;
+    let Some((from_radials, rest)) = rest.split_at_checked(8 * r) else {
+        return cut_short(out);
+    };
+    let Some((from_types, rest)) = rest.split_at_checked(4 * t) else {
+        return cut_short(out);
+    };
+    let Some((from_gates, rest)) = rest.split_at_checked(8 * g) else {
+        return cut_short(out);
+    };
+    let ListRooms {
+        radials,
+        types,
+        gates,
+        kinds,
+        hundredths,
+    } = rooms;
     if r <= radials.len()
         && t <= types.len()
         && g <= gates.len()
         && k <= kinds.len()
         && h <= hundredths.len()
     {
-        ask(
-            out,
-            file,
-            index,
-            list,
-            wanted,
-            &mut radials[..r],
-            &mut types[..t],
-            &mut gates[..g],
-            &mut kinds[..k],
-            &mut hundredths[..h],
-        )
+        let radials = &mut radials[..r];
+        let types = &mut types[..t];
+        let gates = &mut gates[..g];
+        let kinds = &mut kinds[..k];
+        let hundredths = &mut hundredths[..h];
+        unpack(radials, 8, |at| le::u64_at(from_radials, at) as usize);
+        unpack(types, 4, |at| le::u32_at(from_types, at));
+        unpack(gates, 8, |at| le::u64_at(from_gates, at) as usize);
+        let rooms = ListRooms {
+            radials,
+            types,
+            gates,
+            kinds,
+            hundredths,
+        };
+        match asked.output {
+            Output::Words => say_answer(out, asked.file, asked.index, rooms)?,
+            Output::Line => print_answer(out, asked.file, asked.index, rooms)?,
+        }
     } else {
-        word(out, b"too long\n")
+        word(out, b"too long\n")?;
     }
+    Ok(Some(rest))
 }
 
-// The list at a place, and the place behind it, which is past the input where that ends in the list.
-fn list(
+// So many lists at the front of the input, and the input behind them, likewise.
+fn lists<'a>(
     out: &impl Print,
-    file: &[u8],
-    index: &[u8],
-    input: &[u8],
-    at: usize,
-    wanted: u32,
-    radials: &mut [usize],
-    types: &mut [u32],
-    gates: &mut [usize],
-    kinds: &mut [u8],
-    hundredths: &mut [i32],
-) -> io::Result<usize>
-    requires { at ≤ length input.now }
-    ensures { IfOk result (λ next. at ≤ next) }
+    asked: Asked,
+    input: &'a [u8],
+    count: u32,
+    rooms: ListRooms,
+) -> io::Result<Option<&'a [u8]>>
+    ensures { IfOk result (λ rest. IfSome rest (λ s. length s.now ≤ length input.now)) }
 {
-    let eights = le::u32_at(input, at) as usize + le::u32_at(input, at + 8) as usize;
-    let fours = le::u32_at(input, at + 4) as usize;
-    let size = 20 + 8 * eights + 4 * fours;
-    let next = at + size;
-    if input.len() < next {
-        word(out, b"cut short\n")?;
-        return Ok(next);
-    }
-    ask_in(
-        out,
-        file,
-        index,
-        first(behind(input, at), size),
-        wanted,
+    let ListRooms {
         radials,
         types,
         gates,
         kinds,
         hundredths,
-    )?;
-    Ok(next)
-}
-
-// So many lists from a place on, and the place behind them.
-fn lists(
-    out: &impl Print,
-    file: &[u8],
-    index: &[u8],
-    input: &[u8],
-    from: usize,
-    count: u32,
-    wanted: u32,
-    radials: &mut [usize],
-    types: &mut [u32],
-    gates: &mut [usize],
-    kinds: &mut [u8],
-    hundredths: &mut [i32],
-) -> io::Result<usize>
-    ensures { IfOk result (λ next. from ≤ next) }
-{
-    let mut at = from;
-    let mut left = count;
-    while 0 < left {
-        if input.len() < at {
-            return Ok(at);
-        }
-        at = list(
-            out, file, index, input, at, wanted, radials, types, gates, kinds, hundredths,
-        )?;
-        left -= 1;
+    } = rooms;
+    let mut rest = input;
+    for _ in 0..count {
+        let rooms = ListRooms {
+            radials,
+            types,
+            gates,
+            kinds,
+            hundredths,
+        };
+        let Some(behind) = list(out, asked, rest, rooms)? else {
+            return Ok(None);
+        };
+        rest = behind;
     }
-    Ok(at)
+    Ok(Some(rest))
 }
 
 // Each array is made where it is lent, and not by a function that hands it over: that would need the stack for it twice.
-fn lists_in_rooms(
+fn lists_in_rooms<'a>(
     out: &impl Print,
-    file: &[u8],
-    index: &[u8],
-    input: &[u8],
-    from: usize,
+    asked: Asked,
+    input: &'a [u8],
     count: u32,
-    wanted: u32,
-) -> io::Result<usize>
-    ensures { IfOk result (λ next. from ≤ next) }
+) -> io::Result<Option<&'a [u8]>>
+    ensures { IfOk result (λ rest. IfSome rest (λ s. length s.now ≤ length input.now)) }
 {
     let mut radials = [0usize; 65536];
     let mut types = [0u32; 65536];
     let mut gates = [0usize; 65536];
     let mut kinds = [0u8; 65536];
     let mut hundredths = [0i32; 65536];
-    lists(
-        out,
-        file,
-        index,
-        input,
-        from,
-        count,
-        wanted,
-        &mut radials,
-        &mut types,
-        &mut gates,
-        &mut kinds,
-        &mut hundredths,
-    )
+    let rooms = ListRooms {
+        radials: &mut radials,
+        types: &mut types,
+        gates: &mut gates,
+        kinds: &mut kinds,
+        hundredths: &mut hundredths,
+    };
+    lists(out, asked, input, count, rooms)
 }
 
 // The room may be longer than was asked for.
@@ -205,44 +181,44 @@ fn write(out: &impl Print, file: &[u8], asked: usize) -> io::Result<()> {
     write_in(out, file, &mut room, asked)
 }
 
-// The group at a place, and the place behind it, which is past the input where that ends in the group.
-fn group(out: &impl Print, input: &[u8], at: usize) -> io::Result<usize>
-    requires { at < length input.now }
-    ensures { IfOk result (λ next. at < next) }
+// The group at the front of the input, and the input behind it; nothing, where the input ends in the group.
+fn group<'a>(out: &impl Print, input: &'a [u8]) -> io::Result<Option<&'a [u8]>>
+    ensures { IfOk result (λ rest. IfSome rest (λ s. length s.now < length input.now)) }
 {
-    let wanted = le::u32_at(input, at);
-    let volume = le::u32_at(input, at + 4) as usize;
-    let index = le::u32_at(input, at + 8) as usize;
-    let behind_volume = at + 16 + volume;
-    if input.len() < behind_volume {
-        word(out, b"cut short\n")?;
-        return Ok(behind_volume);
-    }
-    let file = first(behind(input, at + 16), volume);
-    if wanted == 2 {
-        write(out, file, index)?;
-        return Ok(behind_volume);
-    }
-    let behind_index = behind_volume + index;
-    if input.len() < behind_index {
-        word(out, b"cut short\n")?;
-        return Ok(behind_index);
-    }
-    lists_in_rooms(
-        out,
+    let Some((head, rest)) = input.split_at_checked(16) else {
+        return cut_short(out);
+    };
+    let volume = le::u32_at(head, 4) as usize;
+    let size = le::u32_at(head, 8) as usize;
+    let Some((file, rest)) = rest.split_at_checked(volume) else {
+        return cut_short(out);
+    };
+    let output = match le::u32_at(head, 0) {
+        1 => Output::Words,
+        2 => {
+            write(out, file, size)?;
+            return Ok(Some(rest));
+        }
+        _ => Output::Line,
+    };
+    let Some((index, rest)) = rest.split_at_checked(size) else {
+        return cut_short(out);
+    };
+    let asked = Asked {
         file,
-        first(behind(input, behind_volume), index),
-        input,
-        behind_index,
-        le::u32_at(input, at + 12),
-        wanted,
-    )
+        index,
+        output,
+    };
+    lists_in_rooms(out, asked, rest, le::u32_at(head, 12))
 }
 
 fn each(out: &impl Print, input: &[u8]) -> io::Result<()> {
-    let mut at = 0;
-    while at < input.len() {
-        at = group(out, input, at)?;
+    let mut rest = input;
+    while !rest.is_empty() {
+        let Some(behind) = group(out, rest)? else {
+            return Ok(());
+        };
+        rest = behind;
     }
     Ok(())
 }

@@ -1,53 +1,29 @@
-// Numbers in rooms: unpacked from bytes, put all over a room, and shown in one number.
-ghost use Rattle.std.specs.Prelude.{map, ◌≡◌, length, replicate};
+// The rooms of a list, numbers that are unpacked from bytes, and a room that is shown in one number.
+ghost use Rattle.std.specs.Prelude.{map, ◌≡◌, ℕ, ◌*◌, ◌^◌, ◌<◌, length, slice_index_or};
 ghost use Rattle.std.specs.Int.{w32};
 ghost use Rattle.std.proofs.Common.{of_z};
-ghost use Rattle.le.specs.Le.{le, items};
 ghost use Rattle.printing.specs.Sum.{sum_from};
 
 use printing::mixed;
 
-// The numbers of four bytes each, one after the other.
-pub(crate) fn unpack_fours(bytes: &[u8], room: &mut [u32])
-    ensures { room.new ≡ items (le 4) 4 (length room.old) bytes.now 0 }
-{
-    let mut i = 0;
-    while i < room.len() {
-        room[i] = le::u32_at(bytes, 4 * i);
-        i += 1;
-    }
+// What a list asks, and where its answers go.
+#[derive(Drop)]
+pub(crate) struct ListRooms<'a> {
+    pub(crate) radials: &'a mut [usize],
+    pub(crate) types: &'a mut [u32],
+    pub(crate) gates: &'a mut [usize],
+    pub(crate) kinds: &'a mut [u8],
+    pub(crate) hundredths: &'a mut [i32],
 }
 
-// The numbers of eight bytes each, likewise.
-pub(crate) fn unpack_eights(bytes: &[u8], room: &mut [usize])
-    ensures { room.new ≡ items (le 8) 8 (length room.old) bytes.now 0 }
+// Each entry of a room as it is read at its place, entries of so many bytes being one after the other.
+pub(crate) fn unpack<T: Copy, F: Fn(usize) -> T>(room: &mut [T], size: usize, read: F)
+    requires places { size * length room.old < 2 ^ 64 }
+    requires callable { F.IsAlwaysCallable read }
+    ensures { (k : ℕ) (d : T) → k < length room.old → F.post read (size * k) (slice_index_or room.new k d) }
 {
-    let mut i = 0;
-    while i < room.len() {
-        room[i] = le::u64_at(bytes, 8 * i) as usize;
-        i += 1;
-    }
-}
-
-// One number all over a room, as `printing::fill` puts a byte.
-pub(crate) fn fill_signed(room: &mut [i32], z: i32)
-    ensures { room.new ≡ replicate (length room.old) z }
-{
-    let mut i = 0;
-    while i < room.len() {
-        room[i] = z;
-        i += 1;
-    }
-}
-
-// The 32 bits of a signed number. A negative one's complement is not negative.
-fn bits(z: i32) -> u32
-    ensures { result ≡ of_z w32 z }
-{
-    if z < 0 {
-        0xFFFF_FFFF - (!z as u32)
-    } else {
-        z as u32
+    for (i, entry) in room.iter_mut().enumerate() {
+        *entry = read(size * i);
     }
 }
 
@@ -55,11 +31,5 @@ fn bits(z: i32) -> u32
 pub(crate) fn sum_signed(s: &[i32]) -> u32
     ensures { result ≡ sum_from 0 (map (of_z w32) s.now) }
 {
-    let mut n = 0;
-    let mut i = 0;
-    while i < s.len() {
-        n = mixed(n, bits(s[i]));
-        i += 1;
-    }
-    n
+    s.iter().fold(0, |n, z| mixed(n, z.cast_unsigned()))
 }

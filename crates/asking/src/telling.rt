@@ -1,8 +1,8 @@
 // What is printed of a list in one line: how many questions were answered, or the refusal; and the checksums of all of both rooms, so that
 // no entry is stored unseen.
-use crate::rooms::{fill_signed, sum_signed};
+use crate::rooms::{ListRooms, sum_signed};
 use engine::ListAnswer;
-use printing::{bare_refused, fill, newline, number, sum, word};
+use printing::{bare_refused, newline, number, sum, word};
 use std::io;
 
 fn print_told(out: &impl Print, answer: ListAnswer) -> io::Result<()> {
@@ -23,14 +23,17 @@ pub(crate) fn print_answer(
     out: &impl Print,
     file: &[u8],
     index: &[u8],
-    radials: &[usize],
-    types: &[u32],
-    gates: &[usize],
-    kinds: &mut [u8],
-    hundredths: &mut [i32],
+    rooms: ListRooms,
 ) -> io::Result<()> {
-    fill(kinds, 0xAA);
-    fill_signed(hundredths, le::i32_of(0xAAAA_AAAA));
+    let ListRooms {
+        radials,
+        types,
+        gates,
+        kinds,
+        hundredths,
+    } = rooms;
+    kinds.fill(0xAA);
+    hundredths.fill(le::i32_of(0xAAAA_AAAA));
     print_told(
         out,
         engine::answer(file, index, radials, types, gates, kinds, hundredths),

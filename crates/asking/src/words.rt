@@ -1,5 +1,6 @@
 // What is printed for the command line: the answers, a line each, or the index; of a refusal the number and the place, and in the next line
 // what it means.
+use crate::rooms::ListRooms;
 use engine::ListAnswer;
 use index::Answer;
 use printing::{bare, bare_refused, bare_signed, first, newline, number, print_volume, word};
@@ -27,10 +28,8 @@ fn say_entry(out: &impl Print, kind: u8, hundredths: i32) -> io::Result<()> {
 }
 
 fn say_entries(out: &impl Print, kinds: &[u8], hundredths: &[i32]) -> io::Result<()> {
-    let mut i = 0;
-    while i < kinds.len() && i < hundredths.len() {
-        say_entry(out, kinds[i], hundredths[i])?;
-        i += 1;
+    for (kind, hundredth) in kinds.iter().zip(hundredths) {
+        say_entry(out, *kind, *hundredth)?;
     }
     Ok(())
 }
@@ -39,14 +38,16 @@ pub(crate) fn say_answer(
     out: &impl Print,
     file: &[u8],
     index: &[u8],
-    radials: &[usize],
-    types: &[u32],
-    gates: &[usize],
-    kinds: &mut [u8],
-    hundredths: &mut [i32],
+    rooms: ListRooms,
 ) -> io::Result<()> {
-    let answer = engine::answer(file, index, radials, types, gates, kinds, hundredths);
-    match answer {
+    let ListRooms {
+        radials,
+        types,
+        gates,
+        kinds,
+        hundredths,
+    } = rooms;
+    match engine::answer(file, index, radials, types, gates, kinds, hundredths) {
         ListAnswer::Filled(n) => {
             word(out, b"answered")?;
             number(out, n as u64)?;
@@ -58,8 +59,7 @@ pub(crate) fn say_answer(
 }
 
 pub(crate) fn say_written(out: &impl Print, file: &[u8], room: &mut [u8]) -> io::Result<()> {
-    let answer = index::write(file, room);
-    match answer {
+    match index::write(file, room) {
         Answer::Written(size) => print_volume(out, first(room, size)),
         Answer::Refused(n) => say_refused(out, n),
     }

@@ -50,9 +50,8 @@ impl Cursor {
     pub fn begin() -> Self
         ensures { result ≡ at_begin }
     {
-        let walk = Walk::begin();
         Self {
-            walk,
+            walk: Walk::begin(),
             stretch: Stretch {
                 start: 0,
                 end: 0,
@@ -79,7 +78,7 @@ fn radial_line(b: &[u8], s: Stretch) -> Line
 fn gates(length: u32, bin: u16) -> u32
     ensures { result ≡ gates_in length bin }
 {
-    if bin == 0 { 0 } else { length / (bin as u32) }
+    length.checked_div(bin as u32).unwrap_or(0)
 }
 
 fn moment_line(b: &[u8], start: usize, at: usize) -> Line
@@ -100,10 +99,9 @@ fn next_radial(file: &[u8], from: Walk) -> Next
     match reading::advance(file, from) {
         Onward::Whole(stretch, walk) => {
             let b = reading::own(file, stretch);
-            let line = radial_line(b, stretch);
             let place = moments::first(b);
             Next::There(
-                line,
+                radial_line(b, stretch),
                 Cursor {
                     walk,
                     stretch,
@@ -119,22 +117,12 @@ fn next_radial(file: &[u8], from: Walk) -> Next
 pub fn next_line(file: &[u8], c: Cursor) -> Next
     ensures { result ≡ line_of file.now c }
 {
-    let walk = c.walk;
-    let stretch = c.stretch;
-    let place = c.place;
-    let b = reading::own(file, stretch);
-    match moments::next(b, place) {
+    let b = reading::own(file, c.stretch);
+    match moments::next(b, c.place) {
         Ahead::There(at, place) => {
-            let line = moment_line(b, stretch.start, at);
-            Next::There(
-                line,
-                Cursor {
-                    walk,
-                    stretch,
-                    place,
-                },
-            )
+            let line = moment_line(b, c.stretch.start, at);
+            Next::There(line, Cursor { place, ..c })
         }
-        Ahead::End => next_radial(file, walk),
+        Ahead::End => next_radial(file, c.walk),
     }
 }

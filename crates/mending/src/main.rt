@@ -8,34 +8,28 @@
 mod telling;
 mod words;
 
-ghost use Rattle.std.specs.Prelude.{◌<◌, length, IfOk};
+ghost use Rattle.std.specs.Prelude.{◌<◌, length, IfOk, IfSome, IsNone};
 
-use crate::telling::{print_refused, print_written};
-use crate::words::{say_refused, say_written};
-use mend::Mended;
-use printing::{behind, fill, first, read_full, word};
+use crate::telling::print_mended;
+use crate::words::say_mended;
+use printing::{first, read_full, word};
 use std::io;
 use std::io::Read;
 
-// Output 1 is for the command line.
-fn close(out: &impl Print, file: &[u8], room: &mut [u8], output: u32) -> io::Result<()> {
-    fill(room, 0xAA);
+// How a mended file is printed.
+#[derive(Clone, Copy)]
+enum Output {
+    // For the command line.
+    Words,
+    Line,
+}
+
+fn close(out: &impl Print, file: &[u8], room: &mut [u8], output: Output) -> io::Result<()> {
+    room.fill(0xAA);
     let mended = mend::mend(file, room);
-    match mended {
-        Mended::Written(size, report) => {
-            if output == 1 {
-                say_written(out, first(room, size), report)
-            } else {
-                print_written(out, room, size, report)
-            }
-        }
-        Mended::Refused(number) => {
-            if output == 1 {
-                say_refused(out, number)
-            } else {
-                print_refused(out, room, number)
-            }
-        }
+    match output {
+        Output::Words => say_mended(out, room, mended),
+        Output::Line => print_mended(out, room, mended),
     }
 }
 
@@ -44,58 +38,54 @@ fn each_start(
     file: &[u8],
     shortest: usize,
     room: &mut [u8],
-    output: u32,
+    output: Output,
 ) -> io::Result<()> {
-    let mut n = shortest;
-    while n <= file.len() {
+    for n in shortest..=file.len() {
         close(out, first(file, n), room, output)?;
-        n += 1;
     }
     Ok(())
 }
 
-// The room may be longer than was asked for.
-fn answer(
-    out: &impl Print,
-    file: &[u8],
-    shortest: usize,
-    room: &mut [u8],
-    asked: usize,
-    output: u32,
-) -> io::Result<()> {
+// The case at the front of the input, and the input behind it; nothing, where the input ends in the case. The room may be longer than was
+// asked for.
+fn case<'a>(out: &impl Print, input: &'a [u8], room: &mut [u8]) -> io::Result<Option<&'a [u8]>>
+    ensures { IfOk result (λ rest. IfSome rest (λ s. length s.now < length input.now)) }
+{
+    let Some((head, rest)) = input.split_at_checked(16) else {
+        return cut_short(out);
+    };
+    let Some((file, rest)) = rest.split_at_checked(le::u32_at(head, 0) as usize) else {
+        return cut_short(out);
+    };
+    let shortest = le::u32_at(head, 4) as usize;
+    let asked = le::u32_at(head, 8) as usize;
+    let output = match le::u32_at(head, 12) {
+        1 => Output::Words,
+        _ => Output::Line,
+    };
     if room.len() < asked {
-        word(out, b"too long\n")
+        word(out, b"too long\n")?;
     } else {
-        each_start(out, file, shortest, &mut room[..asked], output)
+        each_start(out, file, shortest, &mut room[..asked], output)?;
     }
+    Ok(Some(rest))
 }
 
-// The case at a place, and the place behind it.
-fn case(out: &impl Print, input: &[u8], at: usize, room: &mut [u8]) -> io::Result<usize>
-    requires { at < length input.now }
-    ensures { IfOk result (λ next. at < next) }
+// Nothing follows what the input ends in.
+fn cut_short<'a>(out: &impl Print) -> io::Result<Option<&'a [u8]>>
+    ensures { IfOk result (λ rest. IsNone rest) }
 {
-    let size = le::u32_at(input, at) as usize;
-    let next = at + 16 + size;
-    if input.len() < next {
-        word(out, b"cut short\n")?;
-        return Ok(next);
-    }
-    answer(
-        out,
-        first(behind(input, at + 16), size),
-        le::u32_at(input, at + 4) as usize,
-        room,
-        le::u32_at(input, at + 8) as usize,
-        le::u32_at(input, at + 12),
-    )?;
-    Ok(next)
+    word(out, b"cut short\n")?;
+    Ok(None)
 }
 
 fn each(out: &impl Print, input: &[u8], room: &mut [u8]) -> io::Result<()> {
-    let mut at = 0;
-    while at < input.len() {
-        at = case(out, input, at, room)?;
+    let mut rest = input;
+    while !rest.is_empty() {
+        let Some(behind) = case(out, rest, room)? else {
+            return Ok(());
+        };
+        rest = behind;
     }
     Ok(())
 }

@@ -1,5 +1,6 @@
 // What is printed of a mended file in one line: the report's numbers, what reading tells of the written volume, and the checksum of all of
 // the room, so that no byte is stored unseen.
+use mend::Mended;
 use mend::report::{Field, Report};
 use printing::{bare_refused, first, number, print_read, print_sum, word};
 use std::io;
@@ -18,15 +19,13 @@ fn print_field(out: &impl Print, name: &[u8], field: Field) -> io::Result<()> {
             number(out, c.old as u64)?;
             number(out, c.new as u64)
         }
-        Field::Same => { Ok(()) }
+        Field::Same => Ok(()),
     }
 }
 
 fn print_report(out: &impl Print, r: Report) -> io::Result<()> {
-    let cut_number = r.cut_number;
-    let state = r.state;
-    print_field(out, b" cut number", cut_number)?;
-    print_field(out, b" state", state)?;
+    print_field(out, b" cut number", r.cut_number)?;
+    print_field(out, b" state", r.state)?;
     print_pair(
         out,
         b" cuts",
@@ -37,21 +36,18 @@ fn print_report(out: &impl Print, r: Report) -> io::Result<()> {
 }
 
 // The volume is the first bytes of the room.
-pub(crate) fn print_written(
-    out: &impl Print,
-    room: &[u8],
-    size: usize,
-    report: Report,
-) -> io::Result<()> {
-    word(out, b"written")?;
-    number(out, size as u64)?;
-    print_report(out, report)?;
-    print_read(out, reading::read(first(room, size)))?;
-    print_sum(out, room)
-}
-
-pub(crate) fn print_refused(out: &impl Print, room: &[u8], n: u32) -> io::Result<()> {
-    bare_refused(out, n)?;
-    number(out, 0)?;
+pub(crate) fn print_mended(out: &impl Print, room: &[u8], mended: Mended) -> io::Result<()> {
+    match mended {
+        Mended::Written(size, report) => {
+            word(out, b"written")?;
+            number(out, size as u64)?;
+            print_report(out, report)?;
+            print_read(out, reading::read(first(room, size)))?;
+        }
+        Mended::Refused(n) => {
+            bare_refused(out, n)?;
+            number(out, 0)?;
+        }
+    }
     print_sum(out, room)
 }

@@ -1,7 +1,8 @@
 // What is printed of a mended file for the command line: the report in words, the volume's length, and behind that line its bytes as they
 // are; or a refusal in words.
+use mend::Mended;
 use mend::report::{Field, Report};
-use printing::{bare_refused, newline, part, print_volume, word};
+use printing::{bare_refused, first, newline, part, print_volume, word};
 use std::io;
 
 fn say_contents(out: &impl Print, before: &[u8], contents: u32, place: usize) -> io::Result<()> {
@@ -18,7 +19,7 @@ fn say_field(out: &impl Print, name: &[u8], field: Field) -> io::Result<()> {
             say_contents(out, b" of the file, is ", c.new, c.written)?;
             word(out, b" of the volume\n")
         }
-        Field::Same => { Ok(()) }
+        Field::Same => Ok(()),
     }
 }
 
@@ -44,29 +45,18 @@ fn say_stretch(out: &impl Print, from: usize, to: usize) -> io::Result<()> {
 
 // The cut number changes only where cuts are dropped.
 fn unchanged(r: Report) -> bool {
-    let state = r.state;
-    match state {
-        Field::Same => r.dropped_cuts == 0 && r.from == r.to,
-        Field::Changed(_) => false,
-    }
+    matches!(r.state, Field::Same) && r.dropped_cuts == 0 && r.from == r.to
 }
 
 fn say_report(out: &impl Print, r: Report) -> io::Result<()> {
     if unchanged(r) {
         word(out, b"nothing changed: the file is complete\n")
     } else {
-        let cut_number = r.cut_number;
-        let state = r.state;
-        say_field(out, b"cut number", cut_number)?;
-        say_field(out, b"state of the last radial kept", state)?;
+        say_field(out, b"cut number", r.cut_number)?;
+        say_field(out, b"state of the last radial kept", r.state)?;
         say_cuts(out, r.first_dropped, r.dropped_cuts)?;
         say_stretch(out, r.from, r.to)
     }
-}
-
-pub(crate) fn say_written(out: &impl Print, volume: &[u8], report: Report) -> io::Result<()> {
-    say_report(out, report)?;
-    print_volume(out, volume)
 }
 
 fn say_refusal(out: &impl Print, n: u32) -> io::Result<()> {
@@ -76,8 +66,17 @@ fn say_refusal(out: &impl Print, n: u32) -> io::Result<()> {
     }
 }
 
-pub(crate) fn say_refused(out: &impl Print, n: u32) -> io::Result<()> {
-    bare_refused(out, n)?;
-    word(out, b" 0\n")?;
-    say_refusal(out, n)
+// The volume is the first bytes of the room.
+pub(crate) fn say_mended(out: &impl Print, room: &[u8], mended: Mended) -> io::Result<()> {
+    match mended {
+        Mended::Written(size, report) => {
+            say_report(out, report)?;
+            print_volume(out, first(room, size))
+        }
+        Mended::Refused(n) => {
+            bare_refused(out, n)?;
+            word(out, b" 0\n")?;
+            say_refusal(out, n)
+        }
+    }
 }

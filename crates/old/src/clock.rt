@@ -7,11 +7,7 @@ ghost use Rattle.old.specs.Clock.{seconds_of, micros_of, time_clauses};
 pub fn seconds(day: u16, milliseconds: u32) -> u64
     ensures { result ≡ seconds_of day milliseconds }
 {
-    let whole = (milliseconds / 1000) as u64;
-    if day == 0 {
-        return whole;
-    }
-    86400 * (day as u64 - 1) + whole
+    86400 * (day as u64).saturating_sub(1) + (milliseconds / 1000) as u64
 }
 
 // The low 32 bits: all of them where the time is accepted.
@@ -29,19 +25,17 @@ pub fn micros(milliseconds: u32) -> u32
 }
 
 // Which clause of number 62 a time breaks first.
+#[tactic(auto, using(std::proofs::lemmas::Bool::Decides::nat_tests), unfolding(crate::specs::Clock::time_clauses))]
 pub fn time_breaks(day: u16, milliseconds: u32) -> u8
     ensures { result ≡ breaks (time_clauses day milliseconds) }
 {
     if day == 0 {
-        return 1;
-    }
-    if milliseconds < 86400000 {
-        if seconds(day, milliseconds) <= 2147483647 {
-            0
-        } else {
-            3
-        }
-    } else {
+        1
+    } else if milliseconds >= 86400000 {
         2
+    } else if seconds(day, milliseconds) > 2147483647 {
+        3
+    } else {
+        0
     }
 }

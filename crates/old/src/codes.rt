@@ -14,6 +14,7 @@ pub enum Quantity {
 }
 
 // How the codes that we write of a moment are to be read.
+#[tactic(auto, using(std::proofs::lemmas::Bool::Decides::nat_tests), unfolding(crate::specs::Codes::coding_of))]
 pub fn coding(q: Quantity, resolution: u16) -> Coding
     ensures { result ≡ coding_of q resolution }
 {
@@ -37,6 +38,7 @@ pub fn coding(q: Quantity, resolution: u16) -> Coding
 }
 
 // Our code for an old one: past the special codes, of which the old ones are 0 and 1.
+#[tactic(auto, using(std::proofs::lemmas::Bool::Decides::nat_tests), unfolding(crate::specs::Codes::new_code))]
 pub fn code(v: u8) -> u16
     ensures { result ≡ new_code v }
 {
@@ -57,13 +59,11 @@ fn put_codes_here(room: &mut [u8], at: usize, codes: &[u8])
     requires { at + 2 * length codes.now ≤ length room.old }
     ensures { room.new ≡ patch room.old at (run new_bytes codes.now) }
 {
-    let mut i = 0;
-    while i < codes.len() {
-        let x = code(codes[i]);
+    for (i, v) in codes.iter().enumerate() {
+        let [low, high] = code(*v).to_le_bytes();
         let to = at + 2 * i;
-        room[to] = (x % 256) as u8;
-        room[to + 1] = (x / 256 % 256) as u8;
-        i += 1;
+        room[to] = low;
+        room[to + 1] = high;
     }
 }
 

@@ -5,13 +5,11 @@ ghost use Rattle.old.specs.Shelf.{shelf_ok, radials_in};
 use crate::record::OldRadial;
 
 // Number 50.
+#[tactic(auto, using(std::proofs::lemmas::Bool::Decides::nat_tests), unfolding(crate::specs::Shelf::shelf_ok))]
 pub fn shelf_ok(len: usize) -> bool
     ensures { result ≡ shelf_ok len }
 {
-    if len == 0 {
-        return false;
-    }
-    len % OldRadial::SIZE == 0
+    len != 0 && len % OldRadial::SIZE == 0
 }
 
 // How many radials a file of so many bytes has.

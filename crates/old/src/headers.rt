@@ -9,6 +9,7 @@ use moment::Moment;
 use radial::Radial;
 
 // How many gates a moment of an old radial has.
+#[tactic(auto, unfolding(crate::specs::Headers::gates_of))]
 pub fn gates(q: Quantity, o: OldRadial) -> u16
     ensures { result ≡ gates_of q o }
 {
@@ -20,6 +21,7 @@ pub fn gates(q: Quantity, o: OldRadial) -> u16
 }
 
 // Where its codes begin in the old radial: reflectivity, velocity, width, back to back.
+#[tactic(auto, unfolding(crate::specs::Headers::place_of))]
 pub fn place(q: Quantity, o: OldRadial) -> usize
     ensures { result ≡ place_of q o }
 {
@@ -31,23 +33,25 @@ pub fn place(q: Quantity, o: OldRadial) -> usize
 }
 
 // The bytes of a moment, its header among them; none where it has no gates.
+#[tactic(auto, using(std::proofs::lemmas::Bool::Decides::nat_tests), unfolding(crate::specs::Headers::moment_length))]
 pub fn moment_length(gates: u16) -> u32
     ensures { result ≡ moment_length gates }
 {
     if gates == 0 {
-        return 0;
+        0
+    } else {
+        Moment::SIZE as u32 + 2 * (gates as u32)
     }
-    Moment::SIZE as u32 + 2 * (gates as u32)
 }
 
 // How many moments have gates.
+#[tactic(auto, using(std::proofs::lemmas::Bool::Decides::nat_tests), unfolding(crate::specs::Headers::moment_count))]
 fn moment_count(reflectivity: u16, doppler: u16) -> u32
     ensures { result ≡ moment_count reflectivity doppler }
 {
-    if reflectivity == 0 {
-        return if doppler == 0 { 0 } else { 2 };
-    }
-    if doppler == 0 { 1 } else { 3 }
+    let first = if reflectivity == 0 { 0 } else { 1 };
+    let others = if doppler == 0 { 0 } else { 2 };
+    first + others
 }
 
 // The radial header, with its counts in the volume and in the cut.
@@ -71,6 +75,7 @@ pub fn radial_from(o: OldRadial, sequence: u32, number: u32) -> Radial
 }
 
 // A moment header.
+#[tactic(auto, unfolding(crate::specs::Headers::moment_from))]
 pub fn moment_from(q: Quantity, resolution: u16, gates: u16) -> Moment
     ensures { result ≡ moment_from q resolution gates }
 {

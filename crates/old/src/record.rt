@@ -93,8 +93,7 @@ impl OldRadial {
             0,
             Self::DATA as u8,
         );
-        let v = also(v, resolution_ok(self.resolution), 53, 0, Self::DATA as u8);
-        v
+        also(v, resolution_ok(self.resolution), 53, 0, Self::DATA as u8)
     }
 }
 
@@ -106,27 +105,25 @@ fn mark_ok(x: u16) -> bool
 }
 
 // Which clause of number 52 the counts of gates break first.
+#[tactic(auto, using(std::proofs::lemmas::Bool::Decides::nat_tests), unfolding(crate::specs::Old::counts_clauses))]
 fn counts_breaks(reflectivity: u16, doppler: u16) -> u8
     ensures { result ≡ breaks (counts_clauses reflectivity doppler) }
 {
     if reflectivity > 460 {
-        return 1;
+        1
+    } else if doppler > 920 {
+        2
+    } else if reflectivity == 0 && doppler == 0 {
+        3
+    } else {
+        0
     }
-    if doppler > 920 {
-        return 2;
-    }
-    if reflectivity == 0 {
-        return if doppler == 0 { 3 } else { 0 };
-    }
-    0
 }
 
 // Number 53.
+#[tactic(auto, using(std::proofs::lemmas::Bool::Decides::nat_tests), unfolding(crate::specs::Old::resolution_ok))]
 fn resolution_ok(x: u16) -> bool
     ensures { result ≡ resolution_ok x }
 {
-    match x {
-        2 | 4 => true,
-        _ => false,
-    }
+    matches!(x, 2 | 4)
 }

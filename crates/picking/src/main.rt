@@ -8,37 +8,30 @@
 mod telling;
 mod words;
 
-ghost use Rattle.std.specs.Prelude.{◌<◌, length, IfOk};
+ghost use Rattle.std.specs.Prelude.{◌<◌, length, IfOk, IfSome, IsNone};
 
-use crate::telling::{print_refused, print_written};
-use crate::words::say_refused;
+use crate::telling::print_picked;
+use crate::words::say_picked;
 use pick::Picked;
-use printing::{behind, fill, first, print_volume, read_full, word};
+use printing::{first, read_full, word};
 use std::io;
 use std::io::Read;
 
-// In a room that is filled with AA before; how many bytes are written.
-fn print_pick(out: &impl Print, file: &[u8], wanted: u64, room: &mut [u8]) -> io::Result<usize> {
-    fill(room, 0xAA);
+// In a room that is filled with AA before; the volume that is written, which is empty where the pick is refused.
+fn print_pick<'a>(
+    out: &impl Print,
+    file: &[u8],
+    wanted: u64,
+    room: &'a mut [u8],
+) -> io::Result<&'a [u8]> {
+    room.fill(0xAA);
     let picked = pick::pick(file, wanted, room);
-    match picked {
-        Picked::Written(size) => {
-            print_written(out, room, size)?;
-            Ok(size)
-        }
-        Picked::Refused(number, place) => {
-            print_refused(out, room, number, place)?;
-            Ok(0)
-        }
-    }
-}
-
-fn say_pick(out: &impl Print, file: &[u8], wanted: u64, room: &mut [u8]) -> io::Result<()> {
-    let picked = pick::pick(file, wanted, room);
-    match picked {
-        Picked::Written(size) => print_volume(out, first(room, size)),
-        Picked::Refused(number, place) => say_refused(out, number, place),
-    }
+    print_picked(out, room, picked)?;
+    let size = match picked {
+        Picked::Written(size) => size,
+        Picked::Refused(_, _) => 0,
+    };
+    Ok(first(room, size))
 }
 
 // Output 1 is for the command line. Output 2 then picks what was written by the other mask: nothing, where the first pick is refused.
@@ -51,10 +44,13 @@ fn pick_asked(
 ) -> io::Result<()> {
     let wanted = le::u64_at(head, 12);
     match le::u32_at(head, 8) {
-        1 => say_pick(out, file, wanted, room),
+        1 => {
+            let picked = pick::pick(file, wanted, room);
+            say_picked(out, room, picked)
+        }
         2 => {
-            let size = print_pick(out, file, wanted, room)?;
-            print_pick(out, first(room, size), le::u64_at(head, 20), second)?;
+            let volume = print_pick(out, file, wanted, room)?;
+            print_pick(out, volume, le::u64_at(head, 20), second)?;
             Ok(())
         }
         _ => {
@@ -64,53 +60,46 @@ fn pick_asked(
     }
 }
 
-// The rooms may be longer than was asked for.
-fn answer(
-    out: &impl Print,
-    head: &[u8],
-    file: &[u8],
-    room: &mut [u8],
-    second: &mut [u8],
-) -> io::Result<()> {
-    let asked = le::u32_at(head, 4) as usize;
-    if asked <= room.len() && asked <= second.len() {
-        pick_asked(out, head, file, &mut room[..asked], &mut second[..asked])
-    } else {
-        word(out, b"too long\n")
-    }
+// Nothing follows what the input ends in.
+fn cut_short<'a>(out: &impl Print) -> io::Result<Option<&'a [u8]>>
+    ensures { IfOk result (λ rest. IsNone rest) }
+{
+    word(out, b"cut short\n")?;
+    Ok(None)
 }
 
-// The case at a place, and the place behind it.
-fn case(
+// The case at the front of the input, and the input behind it; nothing, where the input ends in the case. The rooms may be longer than was
+// asked for.
+fn case<'a>(
     out: &impl Print,
-    input: &[u8],
-    at: usize,
+    input: &'a [u8],
     room: &mut [u8],
     second: &mut [u8],
-) -> io::Result<usize>
-    requires { at < length input.now }
-    ensures { IfOk result (λ next. at < next) }
+) -> io::Result<Option<&'a [u8]>>
+    ensures { IfOk result (λ rest. IfSome rest (λ s. length s.now < length input.now)) }
 {
-    let size = le::u32_at(input, at) as usize;
-    let next = at + 28 + size;
-    if input.len() < next {
-        word(out, b"cut short\n")?;
-        return Ok(next);
+    let Some((head, rest)) = input.split_at_checked(28) else {
+        return cut_short(out);
+    };
+    let Some((file, rest)) = rest.split_at_checked(le::u32_at(head, 0) as usize) else {
+        return cut_short(out);
+    };
+    let asked = le::u32_at(head, 4) as usize;
+    if asked <= room.len() && asked <= second.len() {
+        pick_asked(out, head, file, &mut room[..asked], &mut second[..asked])?;
+    } else {
+        word(out, b"too long\n")?;
     }
-    answer(
-        out,
-        first(behind(input, at), 28),
-        first(behind(input, at + 28), size),
-        room,
-        second,
-    )?;
-    Ok(next)
+    Ok(Some(rest))
 }
 
 fn each(out: &impl Print, input: &[u8], room: &mut [u8], second: &mut [u8]) -> io::Result<()> {
-    let mut at = 0;
-    while at < input.len() {
-        at = case(out, input, at, room, second)?;
+    let mut rest = input;
+    while !rest.is_empty() {
+        let Some(behind) = case(out, rest, room, second)? else {
+            return Ok(());
+        };
+        rest = behind;
     }
     Ok(())
 }

@@ -6,7 +6,7 @@ pub returns-in-Whole : goal.returns-in-Whole
 unfolding radial_or
 returns-in-Whole c =
     let f = c.args.file.now in
-    rw (c.first-place.ensures, c.radial_line-line.ensures, c.own-b.ensures)
+    rw (c.first-place.ensures, c.radial_line.ensures, c.own-b.ensures)
     (ap (radial_or f) (sym c.in-Whole.is ∙ c.advance.ensures))
 
 pub returns-in-Stopped : goal.returns-in-Stopped

@@ -1,49 +1,30 @@
--- The loop's invariant: m * 2 ^ x stays what it is, and m has at least the digits that were won. Assumes nothing.
-use mathlib.Core.Path.{◌≡◌, refl, ◌∙◌}
-use Prim.Native.Nat.{◌-◌}
+-- The shifted number has 24 digits, and its value with x is that of 45 * n with 136. Assumes nothing.
+use mathlib.Core.Path.{◌≡◌}
+use Prim.Native.Nat.{◌-◌, ◌*◌, ◌%◌, ◌^◌}
 use native.Mathlib.Omega.{arith}
-use Rattle.old.proofs.Angles.{bits_are, no-angle, still, turned, grown}
+use lib.Count.{count_leading_zeros}
+use Rattle.old.proofs.Angles.{bits_are, no-angle, shifted, same-value}
 use Rattle.old.proofs.angle.angle.Goals as goal
 
 pub returns-then-n-eq0 : goal.returns-then-n-eq0
 returns-then-n-eq0 c = let e : c.args.n ≡ 0 = omega arith in rw (e, no-angle)
 
-pub overflow_mul-m : goal.overflow_mul-m
-overflow_mul-m c = omega arith
-
-pub loop-m-init : goal.loop-m-init
-loop-m-init c = (refl, omega arith, omega arith, omega arith, omega arith)
-
-pub overflow_mul-m-in-loop-m : goal.overflow_mul-m-in-loop-m
-overflow_mul-m-in-loop-m c = omega arith
-
-pub overflow_sub-x : goal.overflow_sub-x
-overflow_sub-x c =
-    let l = c.loop-m in
-    let h = still l.m l.x l.invariant.1 c.loop-m-test.true in
-    omega arith
-
-pub loop-m-smaller : goal.loop-m-smaller
-loop-m-smaller c = omega arith
-
-pub loop-m-preserved : goal.loop-m-preserved
-loop-m-preserved c =
-    let l = c.loop-m in
-    let h = still l.m l.x l.invariant.1 c.loop-m-test.true in (
-      turned l.m l.x (omega arith) ∙ l.invariant.0,
-      grown l.m l.x (omega arith) (omega arith) l.invariant.1,
-      omega arith,
-      omega arith,
-      omega arith,
-    )
-
-pub overflow_mul-result : goal.overflow_mul-result
-overflow_mul-result c = omega arith
+pub overflow_sub-shift : goal.overflow_sub-shift
+overflow_sub-shift c = let s = shifted (45 * c.args.n) (omega arith) (omega arith) in omega arith
 
 pub overflow_add-result : goal.overflow_add-result
-overflow_add-result c = omega arith
+overflow_add-result c =
+    let m = 45 * c.args.n in
+    let s = shifted m (omega arith) (omega arith) in
+    let z = count_leading_zeros 32 m - 8 in
+    let whole : m * 2 ^ z % 4294967296 ≡ m * 2 ^ z = omega arith in
+    rw whole (record { fits = omega arith })
 
 pub returns : goal.returns
 returns c =
-    let l = c.loop-m in
-    bits_are c.args.n l.m l.x (omega arith) (omega arith) (omega arith) l.invariant.0
+    let n = c.args.n in
+    let m = 45 * n in
+    let s = shifted m (omega arith) (omega arith) in
+    let z = count_leading_zeros 32 m - 8 in
+    let whole : m * 2 ^ z % 4294967296 ≡ m * 2 ^ z = omega arith in
+    rw whole (bits_are n (m * 2 ^ z) (136 - z) (omega arith) s.low s.high (same-value m z (omega arith)))

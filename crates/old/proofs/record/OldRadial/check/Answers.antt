@@ -4,7 +4,7 @@ use Rattle.old.proofs.record.OldRadial.check.Goals as goal
 pub returns : goal.returns
 unfolding old_check
 returns c = rw (
-  c.also-v-2.ensures,
+  c.also.ensures,
   c.resolution_ok.ensures,
   c.also_clauses-v-2.ensures,
   c.counts_breaks.ensures,

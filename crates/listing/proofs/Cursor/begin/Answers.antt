@@ -1,4 +1,0 @@
-use Rattle.listing.proofs.Cursor.begin.Goals as goal
-
-pub returns : goal.returns
-returns c = rw c.begin-walk.ensures

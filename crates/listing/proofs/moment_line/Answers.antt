@@ -1,4 +1,0 @@
-use Rattle.listing.proofs.moment_line.Goals as goal
-
-pub returns : goal.returns
-returns c = rw (c.gates.ensures, c.read-m.ensures)

@@ -1,4 +1,0 @@
-use Rattle.listing.proofs.radial_line.Goals as goal
-
-pub returns : goal.returns
-returns c = rw c.read-r.ensures
