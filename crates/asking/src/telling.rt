@@ -2,19 +2,13 @@
 // no entry is stored unseen.
 use crate::rooms::{ListRooms, sum_signed};
 use engine::ListAnswer;
-use printing::{bare_refused, newline, number, sum, word};
+use printing::sum;
 use std::io;
 
 fn print_told(out: &impl Print, answer: ListAnswer) -> io::Result<()> {
     match answer {
-        ListAnswer::Filled(n) => {
-            word(out, b"filled")?;
-            number(out, n as u64)
-        }
-        ListAnswer::Refused(n) => {
-            bare_refused(out, n)?;
-            word(out, b" 0")
-        }
+        ListAnswer::Filled(n) => print!(out; "filled {n}"),
+        ListAnswer::Refused(n) => print!(out; "refused {n} 0"),
     }
 }
 
@@ -38,7 +32,5 @@ pub(crate) fn print_answer(
         out,
         engine::answer(file, index, radials, types, gates, kinds, hundredths),
     )?;
-    number(out, sum(kinds) as u64)?;
-    number(out, sum_signed(hundredths) as u64)?;
-    newline(out)
+    println!(out; " {} {}", sum(kinds), sum_signed(hundredths))
 }
