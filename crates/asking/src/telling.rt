@@ -5,13 +5,6 @@ use engine::ListAnswer;
 use printing::sum;
 use std::io;
 
-fn print_told(out: &impl Print, answer: ListAnswer) -> io::Result<()> {
-    match answer {
-        ListAnswer::Filled(n) => print!(out; "filled {n}"),
-        ListAnswer::Refused(n) => print!(out; "refused {n} 0"),
-    }
-}
-
 // In rooms that are filled with AA before.
 pub(crate) fn print_answer(
     out: &impl Print,
@@ -28,9 +21,11 @@ pub(crate) fn print_answer(
     } = rooms;
     kinds.fill(0xAA);
     hundredths.fill(le::i32_of(0xAAAA_AAAA));
-    print_told(
-        out,
-        engine::answer(file, index, radials, types, gates, kinds, hundredths),
-    )?;
-    println!(out; " {} {}", sum(kinds), sum_signed(hundredths))
+    let answer = engine::answer(file, index, radials, types, gates, kinds, hundredths);
+    let kinds = sum(kinds);
+    let hundredths = sum_signed(hundredths);
+    match answer {
+        ListAnswer::Filled(n) => println!(out; "filled {n} {kinds} {hundredths}"),
+        ListAnswer::Refused(n) => println!(out; "refused {n} 0 {kinds} {hundredths}"),
+    }
 }
