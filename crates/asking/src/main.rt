@@ -16,7 +16,7 @@ ghost use Rattle.std.specs.Prelude.{◌≤◌, ◌<◌, length, IfOk, IfSome, Is
 use crate::rooms::{ListRooms, unpack};
 use crate::telling::print_answer;
 use crate::words::{say_answer, say_written};
-use printing::{first, read_full, word};
+use printing::{first, read_full};
 use std::io;
 use std::io::Read;
 
@@ -40,7 +40,7 @@ struct Asked<'a> {
 fn cut_short<'a>(out: &impl Print) -> io::Result<Option<&'a [u8]>>
     ensures { IfOk result (λ rest. IsNone rest) }
 {
-    word(out, b"cut short\n")?;
+    println!(out; "cut short")?;
     Ok(None)
 }
 
@@ -104,7 +104,7 @@ fn list<'a>(
             Output::Line => print_answer(out, asked.file, asked.index, rooms)?,
         }
     } else {
-        word(out, b"too long\n")?;
+        println!(out; "too long")?;
     }
     Ok(Some(rest))
 }
@@ -170,7 +170,7 @@ fn lists_in_rooms<'a>(
 // The room may be longer than was asked for.
 fn write_in(out: &impl Print, file: &[u8], room: &mut [u8], asked: usize) -> io::Result<()> {
     if room.len() < asked {
-        word(out, b"too long\n")
+        println!(out; "too long")
     } else {
         say_written(out, file, &mut room[..asked])
     }
@@ -214,6 +214,7 @@ fn group<'a>(out: &impl Print, input: &'a [u8]) -> io::Result<Option<&'a [u8]>>
 
 fn each(out: &impl Print, input: &[u8]) -> io::Result<()> {
     let mut rest = input;
+    // By hand: a group says its own length, so none but the code that reads it knows where the next one begins.
     while !rest.is_empty() {
         let Some(behind) = group(out, rest)? else {
             return Ok(());
@@ -228,7 +229,7 @@ fn run(out: &impl Print, input: &mut impl Read, buf: &mut [u8]) -> io::Result<()
     if n < buf.len() {
         each(out, first(buf, n))
     } else {
-        word(out, b"too long\n")
+        println!(out; "too long")
     }
 }
 

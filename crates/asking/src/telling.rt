@@ -2,21 +2,8 @@
 // no entry is stored unseen.
 use crate::rooms::{ListRooms, sum_signed};
 use engine::ListAnswer;
-use printing::{bare_refused, newline, number, sum, word};
+use printing::sum;
 use std::io;
-
-fn print_told(out: &impl Print, answer: ListAnswer) -> io::Result<()> {
-    match answer {
-        ListAnswer::Filled(n) => {
-            word(out, b"filled")?;
-            number(out, n as u64)
-        }
-        ListAnswer::Refused(n) => {
-            bare_refused(out, n)?;
-            word(out, b" 0")
-        }
-    }
-}
 
 // In rooms that are filled with AA before.
 pub(crate) fn print_answer(
@@ -34,11 +21,11 @@ pub(crate) fn print_answer(
     } = rooms;
     kinds.fill(0xAA);
     hundredths.fill(le::i32_of(0xAAAA_AAAA));
-    print_told(
-        out,
-        engine::answer(file, index, radials, types, gates, kinds, hundredths),
-    )?;
-    number(out, sum(kinds) as u64)?;
-    number(out, sum_signed(hundredths) as u64)?;
-    newline(out)
+    let answer = engine::answer(file, index, radials, types, gates, kinds, hundredths);
+    let kinds = sum(kinds);
+    let hundredths = sum_signed(hundredths);
+    match answer {
+        ListAnswer::Filled(n) => println!(out; "filled {n} {kinds} {hundredths}"),
+        ListAnswer::Refused(n) => println!(out; "refused {n} 0 {kinds} {hundredths}"),
+    }
 }

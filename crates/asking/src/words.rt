@@ -3,33 +3,25 @@
 use crate::rooms::ListRooms;
 use engine::ListAnswer;
 use index::Answer;
-use printing::{bare, bare_refused, bare_signed, first, newline, number, print_volume, word};
+use printing::{first, print_volume};
 use std::io;
 
 fn say_refusal(out: &impl Print, n: u32) -> io::Result<()> {
     match n {
-        36 => word(out, b"the file is not complete\n"),
-        59 => word(out, b"the index is not right for the file\n"),
-        _ => word(out, b"no room\n"),
+        36 => println!(out; "the file is not complete"),
+        59 => println!(out; "the index is not right for the file"),
+        _ => println!(out; "no room"),
     }
 }
 
 fn say_refused(out: &impl Print, n: u32) -> io::Result<()> {
-    bare_refused(out, n)?;
-    word(out, b" 0\n")?;
+    println!(out; "refused {n} 0")?;
     say_refusal(out, n)
-}
-
-fn say_entry(out: &impl Print, kind: u8, hundredths: i32) -> io::Result<()> {
-    bare(out, kind as u64)?;
-    word(out, b" ")?;
-    bare_signed(out, hundredths)?;
-    newline(out)
 }
 
 fn say_entries(out: &impl Print, kinds: &[u8], hundredths: &[i32]) -> io::Result<()> {
     for (kind, hundredth) in kinds.iter().zip(hundredths) {
-        say_entry(out, *kind, *hundredth)?;
+        println!(out; "{kind} {hundredth}")?;
     }
     Ok(())
 }
@@ -49,9 +41,7 @@ pub(crate) fn say_answer(
     } = rooms;
     match engine::answer(file, index, radials, types, gates, kinds, hundredths) {
         ListAnswer::Filled(n) => {
-            word(out, b"answered")?;
-            number(out, n as u64)?;
-            newline(out)?;
+            println!(out; "answered {n}")?;
             say_entries(out, first(kinds, n), hundredths)
         }
         ListAnswer::Refused(n) => say_refused(out, n),

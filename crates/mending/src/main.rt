@@ -12,7 +12,7 @@ ghost use Rattle.std.specs.Prelude.{◌<◌, length, IfOk, IfSome, IsNone};
 
 use crate::telling::print_mended;
 use crate::words::say_mended;
-use printing::{first, read_full, word};
+use printing::{first, read_full};
 use std::io;
 use std::io::Read;
 
@@ -64,7 +64,7 @@ fn case<'a>(out: &impl Print, input: &'a [u8], room: &mut [u8]) -> io::Result<Op
         _ => Output::Line,
     };
     if room.len() < asked {
-        word(out, b"too long\n")?;
+        println!(out; "too long")?;
     } else {
         each_start(out, file, shortest, &mut room[..asked], output)?;
     }
@@ -75,12 +75,13 @@ fn case<'a>(out: &impl Print, input: &'a [u8], room: &mut [u8]) -> io::Result<Op
 fn cut_short<'a>(out: &impl Print) -> io::Result<Option<&'a [u8]>>
     ensures { IfOk result (λ rest. IsNone rest) }
 {
-    word(out, b"cut short\n")?;
+    println!(out; "cut short")?;
     Ok(None)
 }
 
 fn each(out: &impl Print, input: &[u8], room: &mut [u8]) -> io::Result<()> {
     let mut rest = input;
+    // By hand: a case says its own length, so none but the code that reads it knows where the next one begins.
     while !rest.is_empty() {
         let Some(behind) = case(out, rest, room)? else {
             return Ok(());
@@ -101,7 +102,7 @@ fn run(out: &impl Print, input: &mut impl Read, buf: &mut [u8]) -> io::Result<()
     if n < buf.len() {
         each_in_room(out, first(buf, n))
     } else {
-        word(out, b"too long\n")
+        println!(out; "too long")
     }
 }
 

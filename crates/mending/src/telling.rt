@@ -2,52 +2,36 @@
 // the room, so that no byte is stored unseen.
 use mend::Mended;
 use mend::report::{Field, Report};
-use printing::{bare_refused, first, number, print_read, print_sum, word};
+use printing::{first, print_verdict, sum};
 use std::io;
 
-fn print_pair(out: &impl Print, name: &[u8], a: usize, b: usize) -> io::Result<()> {
-    word(out, name)?;
-    number(out, a as u64)?;
-    number(out, b as u64)
-}
-
 // Nothing of a field that is not named.
-fn print_field(out: &impl Print, name: &[u8], field: Field) -> io::Result<()> {
+fn print_field(out: &impl Print, name: &str, field: Field) -> io::Result<()> {
     match field {
-        Field::Changed(c) => {
-            print_pair(out, name, c.place, c.written)?;
-            number(out, c.old as u64)?;
-            number(out, c.new as u64)
-        }
+        Field::Changed(c) => print!(out; " {name} {} {} {} {}", c.place, c.written, c.old, c.new),
         Field::Same => Ok(()),
     }
 }
 
 fn print_report(out: &impl Print, r: Report) -> io::Result<()> {
-    print_field(out, b" cut number", r.cut_number)?;
-    print_field(out, b" state", r.state)?;
-    print_pair(
-        out,
-        b" cuts",
-        r.first_dropped as usize,
-        r.dropped_cuts as usize,
-    )?;
-    print_pair(out, b" stretch", r.from, r.to)
+    print_field(out, "cut number", r.cut_number)?;
+    print_field(out, "state", r.state)?;
+    print!(out;
+        " cuts {} {} stretch {} {}",
+        r.first_dropped, r.dropped_cuts, r.from, r.to
+    )
 }
 
 // The volume is the first bytes of the room.
 pub(crate) fn print_mended(out: &impl Print, room: &[u8], mended: Mended) -> io::Result<()> {
     match mended {
         Mended::Written(size, report) => {
-            word(out, b"written")?;
-            number(out, size as u64)?;
+            let r = reading::read(first(room, size));
+            print!(out; "written {size}")?;
             print_report(out, report)?;
-            print_read(out, reading::read(first(room, size)))?;
+            print_verdict(out, r.verdict)?;
+            println!(out; " {} {}", r.radials, sum(room))
         }
-        Mended::Refused(n) => {
-            bare_refused(out, n)?;
-            number(out, 0)?;
-        }
+        Mended::Refused(n) => println!(out; "refused {n} 0 {}", sum(room)),
     }
-    print_sum(out, room)
 }

@@ -13,7 +13,7 @@ ghost use Rattle.std.specs.Prelude.{◌<◌, length, IfOk, IfSome, IsNone};
 use crate::telling::print_picked;
 use crate::words::say_picked;
 use pick::Picked;
-use printing::{first, read_full, word};
+use printing::{first, read_full};
 use std::io;
 use std::io::Read;
 
@@ -64,7 +64,7 @@ fn pick_asked(
 fn cut_short<'a>(out: &impl Print) -> io::Result<Option<&'a [u8]>>
     ensures { IfOk result (λ rest. IsNone rest) }
 {
-    word(out, b"cut short\n")?;
+    println!(out; "cut short")?;
     Ok(None)
 }
 
@@ -88,13 +88,14 @@ fn case<'a>(
     if asked <= room.len() && asked <= second.len() {
         pick_asked(out, head, file, &mut room[..asked], &mut second[..asked])?;
     } else {
-        word(out, b"too long\n")?;
+        println!(out; "too long")?;
     }
     Ok(Some(rest))
 }
 
 fn each(out: &impl Print, input: &[u8], room: &mut [u8], second: &mut [u8]) -> io::Result<()> {
     let mut rest = input;
+    // By hand: a case says its own length, so none but the code that reads it knows where the next one begins.
     while !rest.is_empty() {
         let Some(behind) = case(out, rest, room, second)? else {
             return Ok(());
@@ -116,7 +117,7 @@ fn run(out: &impl Print, input: &mut impl Read, buf: &mut [u8]) -> io::Result<()
     if n < buf.len() {
         each_in_rooms(out, first(buf, n))
     } else {
-        word(out, b"too long\n")
+        println!(out; "too long")
     }
 }
 

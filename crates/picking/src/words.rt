@@ -1,13 +1,13 @@
 // What is printed of a pick for the command line: the volume; or the refusal, and in the next line what it means.
 use pick::Picked;
-use printing::{bare_refused, first, newline, number, print_volume, word};
+use printing::{first, print_volume};
 use std::io;
 
 fn say_refusal(out: &impl Print, n: u32) -> io::Result<()> {
     match n {
-        36 => word(out, b"the file is not complete\n"),
-        60 => word(out, b"the radial there would have no moment left\n"),
-        _ => word(out, b"the room is too short for the volume\n"),
+        36 => println!(out; "the file is not complete"),
+        60 => println!(out; "the radial there would have no moment left"),
+        _ => println!(out; "the room is too short for the volume"),
     }
 }
 
@@ -16,9 +16,7 @@ pub(crate) fn say_picked(out: &impl Print, room: &[u8], picked: Picked) -> io::R
     match picked {
         Picked::Written(size) => print_volume(out, first(room, size)),
         Picked::Refused(n, place) => {
-            bare_refused(out, n)?;
-            number(out, place as u64)?;
-            newline(out)?;
+            println!(out; "refused {n} {place}")?;
             say_refusal(out, n)
         }
     }

@@ -27,15 +27,6 @@ fn cut(negative: bool, product: u32, power: u32) -> Angle
     }
 }
 
-// Where every bit of the exponent is set.
-fn endless(negative: bool, rest: u32) -> Angle {
-    if rest == 0 {
-        Angle::Infinite(negative)
-    } else {
-        Angle::NoNumber
-    }
-}
-
 // With a mantissa m of 24 bits and an exponent e the size is m * 2^(e - 150), so its hundredths are 100 * m over 2^(150 - e). Below
 // exponent 119 that power is 32 or more, which leaves none of the product's 31 bits.
 pub(crate) fn angle_of(bits: u32) -> Angle {
@@ -51,6 +42,7 @@ pub(crate) fn angle_of(bits: u32) -> Angle {
         },
         119..=146 => cut(negative, 100 * (0x80_0000 + rest), 150 - exponent),
         147..=254 => Angle::Beyond(negative),
-        _ => endless(negative, rest),
+        _ if rest == 0 => Angle::Infinite(negative),
+        _ => Angle::NoNumber,
     }
 }

@@ -18,7 +18,7 @@ use std::io::Read;
 // The bytes of a question.
 const QUESTION: usize = 12;
 
-// The question that stands there.
+// A question, of which the input may end in the midst.
 fn say_question(out: &impl Print, volume: &[u8], question: &[u8]) -> io::Result<()> {
     words::say_gate(
         out,
