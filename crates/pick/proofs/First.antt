@@ -72,17 +72,17 @@ module _ (wanted : ℕ) (f : List ℕ) where
   some-told s e = let w = some-found wanted (bytes_of f s) (moments_of (bytes_of f s)) (eqb-false _ 0 e) in (w.type, (w.is, rw w.there))
 
   -- the same of the n-th of some radials
-  Some : List Stretch → ℕ → Type 0
-  Some ss n = (t : ℕ) × ((bit wanted t ≡ true) × ((moment_told f (in_found f (nth ss n) t)).number ≡ 0))
+  SomeKept : List Stretch → ℕ → Type 0
+  SomeKept ss n = (t : ℕ) × ((bit wanted t ≡ true) × ((moment_told f (in_found f (nth ss n) t)).number ≡ 0))
 
   record FirstOf (ss : List Stretch) (s : Stretch) : Type 0 where
     before : ℕ
     is : nth ss (suc before) ≡ Some s
     empty : empties wanted (bytes_of f s) ≡ true
-    others : (k : ℕ) → 1 ≤ k → k ≤ before → Some ss k
+    others : (k : ℕ) → 1 ≤ k → k ≤ before → SomeKept ss k
 
   first_of : (ss : List Stretch) (s : Stretch) → first_empty wanted f ss ≡ Some s → FirstOf ss s
-  unfolding first_empty nth Some
+  unfolding first_empty nth SomeKept
   first_of [] s e = absurd (let z : ◌≡◌ {A = ℕ} 0 1 = cc in omega arith)
   first_of (x ∷ ss) s e = go (empties wanted (bytes_of f x)) refl e (first_of ss s)
     where
@@ -93,25 +93,25 @@ module _ (wanted : ℕ) (f : List ℕ) where
           let n = rest r in
           record { before = suc n.before; is = n.is; empty = n.empty; others = later n.before d n.others }
         where
-          later : (m : ℕ) → empties wanted (bytes_of f x) ≡ false → ((k : ℕ) → 1 ≤ k → k ≤ m → Some ss k) → (k : ℕ) → 1 ≤ k → k ≤ suc m → Some (x ∷ ss) k
+          later : (m : ℕ) → empties wanted (bytes_of f x) ≡ false → ((k : ℕ) → 1 ≤ k → k ≤ m → SomeKept ss k) → (k : ℕ) → 1 ≤ k → k ≤ suc m → SomeKept (x ∷ ss) k
           later m d o zero low high = absurd (omega arith)
           later m d o (suc zero) low high = some-told x d
           later m d o (suc (suc k)) low high = o (suc k) (omega arith) (omega arith)
 
-  each_of : (ss : List Stretch) → first_empty wanted f ss ≡ None → (n : ℕ) → (radial_told f (nth ss n)).number ≡ 0 → Some ss n
-  unfolding first_empty nth Some radial_told
+  each_of : (ss : List Stretch) → first_empty wanted f ss ≡ None → (n : ℕ) → (radial_told f (nth ss n)).number ≡ 0 → SomeKept ss n
+  unfolding first_empty nth SomeKept radial_told
   each_of [] e n h = absurd (omega arith)
   each_of (x ∷ ss) e n h = go (empties wanted (bytes_of f x)) refl e n h (each_of ss)
     where
       go : (b : Bool) → empties wanted (bytes_of f x) ≡ b → cond b (Some x) (first_empty wanted f ss) ≡ None → (n : ℕ) → (radial_told f (nth (x ∷ ss) n)).number ≡ 0
-          → (first_empty wanted f ss ≡ None → (m : ℕ) → (radial_told f (nth ss m)).number ≡ 0 → Some ss m) → Some (x ∷ ss) n
+          → (first_empty wanted f ss ≡ None → (m : ℕ) → (radial_told f (nth ss m)).number ≡ 0 → SomeKept ss m) → SomeKept (x ∷ ss) n
       go true d r n k rest = absurd (let z : ◌≡◌ {A = ℕ} 0 1 = cc in omega arith)
       go false d r zero k rest = absurd (omega arith)
       go false d r (suc zero) k rest = some-told x d
       go false d r (suc (suc m)) k rest = rest r (suc m) k
 
   pub by-questions : ByQuestions wanted f
-  unfolding Some radial_told
+  unfolding SomeKept radial_told
   by-questions =
       record {
         first = λ s e.

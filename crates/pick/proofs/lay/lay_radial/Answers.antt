@@ -20,8 +20,8 @@ returns c =
     let a = c.args in
     let kept = c.lay_moments-kept.ensures.value in record {
       value = ap (λ (x : Kept). a.to + 64 + x.bytes) kept;
-      room_after = radial-laid a.wanted a.b.now a.room.now c.put.new.room c.lay_moments-kept.new.room c.put_u32.new.room c.put_u32-2.new.room a.to c.requires.radial_size_in_bounds c.requires.b_in_bounds
-          (c.put.ensures ∙ ap (λ (x : List ℕ). stored (length x) a.room.now a.to x) (c.copy_out.ensures ∙ sym (part-here 64 a.b.now 0 c.requires.radial_size_in_bounds))) c.lay_moments-kept.ensures.room_after
+      room_after = radial-laid a.wanted a.b.now a.room.now c.put_bytes.new.room c.lay_moments-kept.new.room c.put_u32.new.room c.put_u32-2.new.room a.to c.requires.radial_size_in_bounds c.requires.b_in_bounds
+          (c.put_bytes.ensures.stored ∙ ap (λ (n : ℕ). stored n a.room.now a.to c.bytes_at-head.result) (sym c.put_bytes.ensures.len) ∙ ap (λ (x : List ℕ). stored (length x) a.room.now a.to x) (c.bytes_at-head.ensures ∙ sym (part-here 64 a.b.now 0 c.requires.radial_size_in_bounds))) c.lay_moments-kept.ensures.room_after
           (c.put_u32.ensures ∙ ap (λ (x : Kept). stored 4 c.lay_moments-kept.new.room (a.to + 36) (bytes 4 (x.bytes % 256 ^ 4))) kept)
           (c.put_u32-2.ensures ∙ ap (λ (x : Kept). stored 4 c.put_u32.new.room (a.to + 40) (bytes 4 (x.moments % 256 ^ 4))) kept);
     }
