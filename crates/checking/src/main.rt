@@ -9,30 +9,23 @@
 ghost use Rattle.std.specs.Prelude.{◌≤◌, ◌<◌, ◌*◌, length, IfOk};
 
 use decoded::CheckAnswer;
-use printing::{bare_refused, behind, first, newline, number, read_full, word};
+use printing::{behind, first, read_full};
 use std::io;
 use std::io::Read;
 
-fn say_refusal(out: &impl Print, n: u32) -> io::Result<()> {
+// Why a row is not looked at, in words.
+fn reason(n: u32) -> &'static str {
     match n {
-        30 => word(out, b"nothing yet: no such whole radial\n"),
-        _ => word(out, b"no such moment in the radial\n"),
+        30 => "nothing yet: no such whole radial",
+        _ => "no such moment in the radial",
     }
 }
 
 fn print_answer(out: &impl Print, answer: CheckAnswer) -> io::Result<()> {
     match answer {
-        CheckAnswer::Same => word(out, b"same\n"),
-        CheckAnswer::Differs(gate) => {
-            word(out, b"differs")?;
-            number(out, gate as u64)?;
-            newline(out)
-        }
-        CheckAnswer::Refused(n) => {
-            bare_refused(out, n)?;
-            word(out, b" 0\n")?;
-            say_refusal(out, n)
-        }
+        CheckAnswer::Same => println!(out; "same"),
+        CheckAnswer::Differs(gate) => println!(out; "differs {gate}"),
+        CheckAnswer::Refused(n) => println!(out; "refused {n} 0\n{}", reason(n)),
     }
 }
 
@@ -71,7 +64,7 @@ fn row<'a>(
             ),
         )?;
     } else {
-        word(out, b"too long\n")?;
+        println!(out; "too long")?;
     }
     Ok(behind(hundredths, bytes))
 }
@@ -86,6 +79,7 @@ fn rows<'a>(
 ) -> io::Result<&'a [u8]>
     ensures { IfOk result (λ rest. length rest.now ≤ length input.now) }
 {
+    // By hand: a row says how long it is, so no chunks of one length part the input.
     let mut rest = input;
     for _ in 0..count {
         if rest.is_empty() {
@@ -97,6 +91,7 @@ fn rows<'a>(
 }
 
 fn each(out: &impl Print, input: &[u8], room: &mut [i32]) -> io::Result<()> {
+    // By hand: a volume and its rows say how long they are, so no chunks of one length part the input.
     let mut rest = input;
     while !rest.is_empty() {
         let bytes = le::u32_at(rest, 0) as usize;
@@ -114,7 +109,7 @@ fn run(out: &impl Print, input: &mut impl Read, buf: &mut [u8]) -> io::Result<()
     if n < buf.len() {
         each(out, first(buf, n), &mut hundredths)
     } else {
-        word(out, b"too long\n")
+        println!(out; "too long")
     }
 }
 

@@ -3,24 +3,21 @@
 use ask::answers;
 use ask::answers::GateAnswer;
 use gates::{Gate, Told};
-use printing::{bare, bare_signed, newline, number, part, word};
 use std::io;
 
 // Of a value its exact fraction too, not reduced.
 fn print_told(out: &impl Print, told: Told) -> io::Result<()> {
-    number(out, told.gate.kind() as u64)?;
-    if matches!(told.gate, Gate::Value(_)) {
-        word(out, b" ")?;
-        bare_signed(out, told.difference)?;
-        part(out, b"/", told.scale as u64)?;
+    let kind = told.gate.kind();
+    match told.gate {
+        Gate::Value(_) => print!(out; " {kind} {}/{}", told.difference, told.scale),
+        _ => print!(out; " {kind}"),
     }
-    Ok(())
 }
 
 fn print_gate(out: &impl Print, answer: GateAnswer) -> io::Result<()> {
     match answer {
         GateAnswer::Answered(told) => print_told(out, told),
-        GateAnswer::Refused(n) => number(out, n as u64),
+        GateAnswer::Refused(n) => print!(out; " {n}"),
     }
 }
 
@@ -38,9 +35,7 @@ fn print_gates(
 }
 
 fn print_moment(out: &impl Print, volume: &[u8], sequence: usize, t: u32) -> io::Result<()> {
-    bare(out, sequence as u64)?;
-    number(out, t as u64)?;
-    word(out, b":")?;
+    print!(out; "{sequence} {t}:")?;
     let m = answers::moment(volume, sequence, t);
     if m.number == 0 {
         let bytes = answers::moment_data(volume, sequence, t);
@@ -52,9 +47,9 @@ fn print_moment(out: &impl Print, volume: &[u8], sequence: usize, t: u32) -> io:
             gates::gates_in(bytes, m.header.bin_length),
         )?;
     } else {
-        number(out, m.number as u64)?;
+        print!(out; " {}", m.number)?;
     }
-    newline(out)
+    println!(out)
 }
 
 pub(crate) fn print_radials(out: &impl Print, volume: &[u8], count: usize) -> io::Result<()> {

@@ -12,7 +12,7 @@ ghost use Rattle.std.specs.Prelude.{◌≤◌, ◌-◌, length, IfOk};
 
 use crate::telling::{Output, print_refused, print_taken};
 use generic::Generic;
-use printing::{behind, fill, first, read_full, word};
+use printing::{behind, first, read_full};
 use site::Site;
 use std::io;
 use std::io::Read;
@@ -27,7 +27,7 @@ fn bring(
     room: &mut [u8],
     output: Output,
 ) -> io::Result<()> {
-    fill(room, 0xAA);
+    room.fill(0xAA);
     let put = shelf::import(
         Generic::read(records, 0),
         Site::read(records, Generic::SIZE),
@@ -52,9 +52,9 @@ fn answer(
     output: Output,
 ) -> io::Result<()> {
     if records.len() < Generic::SIZE + Site::SIZE + Task::SIZE {
-        word(out, b"no records\n")
+        println!(out; "no records")
     } else if room.len() < asked {
-        word(out, b"too long\n")
+        println!(out; "too long")
     } else {
         bring(out, records, old, &mut room[..asked], output)
     }
@@ -69,7 +69,7 @@ fn case<'a>(out: &impl Print, input: &'a [u8], room: &mut [u8]) -> io::Result<&'
     let asked = le::u32_at(input, 8) as usize;
     let output = Output::from(le::u32_at(input, 12));
     if input.len() < 16 + records + old {
-        word(out, b"cut short\n")?;
+        println!(out; "cut short")?;
         return Ok(&[]);
     }
     let (records, rest) = input[16..].split_at(records);
@@ -79,6 +79,7 @@ fn case<'a>(out: &impl Print, input: &'a [u8], room: &mut [u8]) -> io::Result<&'
 }
 
 fn each(out: &impl Print, input: &[u8], room: &mut [u8]) -> io::Result<()> {
+    // By hand: a case says how long it is, so no chunks of one length part the input.
     let mut rest = input;
     while !rest.is_empty() {
         rest = case(out, rest, room)?;
@@ -97,7 +98,7 @@ fn run(out: &impl Print, input: &mut impl Read, buf: &mut [u8]) -> io::Result<()
     if n < buf.len() {
         each_in_room(out, first(buf, n))
     } else {
-        word(out, b"too long\n")
+        println!(out; "too long")
     }
 }
 

@@ -1,6 +1,6 @@
 // What is printed of an import.
 use crate::gates_told::print_radials;
-use printing::{bare_refused, first, newline, number, print_sum, print_verdict, word};
+use printing::{first, print_verdict, sum};
 use reading::{Reading, Verdict};
 use std::io;
 
@@ -26,38 +26,16 @@ impl From<u32> for Output {
 }
 
 // Without the bytes that are missing. What an import wrote is never refused.
-fn print_name(out: &impl Print, v: Verdict) -> io::Result<()> {
+fn name(v: Verdict) -> &'static str {
     match v {
-        Verdict::Complete => word(out, b" complete"),
-        Verdict::Open(_) => word(out, b" open"),
-        Verdict::Refused(_, _) => word(out, b" refused"),
+        Verdict::Complete => "complete",
+        Verdict::Open(_) => "open",
+        Verdict::Refused(_, _) => "refused",
     }
 }
 
-fn print_line(out: &impl Print, room: &[u8], r: Reading) -> io::Result<()> {
-    print_name(out, r.verdict)?;
-    print_sum(out, room)
-}
-
-fn print_read(
-    out: &impl Print,
-    room: &[u8],
-    volume: &[u8],
-    r: Reading,
-    output: Output,
-) -> io::Result<()> {
-    match output {
-        Output::Sum => print_line(out, room, r),
-        Output::Gates => {
-            print_line(out, room, r)?;
-            print_radials(out, volume, r.radials)
-        }
-        Output::Volume => {
-            print_verdict(out, r.verdict)?;
-            newline(out)?;
-            word(out, volume)
-        }
-    }
+fn print_line(out: &impl Print, room: &[u8], bytes: usize, r: Reading) -> io::Result<()> {
+    println!(out; "taken {bytes} {} {}", name(r.verdict), sum(room))
 }
 
 // The volume is the first bytes of the room.
@@ -68,31 +46,32 @@ pub(crate) fn print_taken(
     output: Output,
 ) -> io::Result<()> {
     let volume = first(room, bytes);
-    word(out, b"taken")?;
-    number(out, bytes as u64)?;
-    print_read(out, room, volume, reading::read(volume), output)
+    let r = reading::read(volume);
+    match output {
+        Output::Sum => print_line(out, room, bytes, r),
+        Output::Gates => {
+            print_line(out, room, bytes, r)?;
+            print_radials(out, volume, r.radials)
+        }
+        Output::Volume => {
+            print!(out; "taken {bytes}")?;
+            print_verdict(out, r.verdict)?;
+            println!(out)?;
+            out.write_all(volume)
+        }
+    }
 }
 
-fn say_refusal(out: &impl Print, n: u32) -> io::Result<()> {
+// Why an import is refused, in words.
+fn reason(n: u32) -> &'static str {
     match n {
-        50 => word(
-            out,
-            b"the length of the old file is not a positive multiple of 2432\n",
-        ),
-        51 => word(out, b"the radar mark of the old radial there is not 1\n"),
-        62 => word(
-            out,
-            b"the time of the old radial there: day 0, milliseconds not under 86,400,000 or seconds over 2,147,483,647\n",
-        ),
-        52 => word(
-            out,
-            b"a gate count of the old radial there is too large, or all are 0\n",
-        ),
-        53 => word(
-            out,
-            b"the resolution of the old radial there is not 2 or 4\n",
-        ),
-        _ => word(out, b"our writer refuses a block of the new volume there\n"),
+        50 => "the length of the old file is not a positive multiple of 2432",
+        51 => "the radar mark of the old radial there is not 1",
+        62 =>
+            "the time of the old radial there: day 0, milliseconds not under 86,400,000 or seconds over 2,147,483,647",
+        52 => "a gate count of the old radial there is too large, or all are 0",
+        53 => "the resolution of the old radial there is not 2 or 4",
+        _ => "our writer refuses a block of the new volume there",
     }
 }
 
@@ -103,13 +82,8 @@ pub(crate) fn print_refused(
     place: usize,
     output: Output,
 ) -> io::Result<()> {
-    bare_refused(out, n)?;
-    number(out, place as u64)?;
     match output {
-        Output::Volume => {
-            newline(out)?;
-            say_refusal(out, n)
-        }
-        _ => print_sum(out, room),
+        Output::Volume => println!(out; "refused {n} {place}\n{}", reason(n)),
+        _ => println!(out; "refused {n} {place} {}", sum(room)),
     }
 }

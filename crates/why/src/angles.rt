@@ -1,6 +1,9 @@
 // An angle in hundredths of a degree, from the bits of its IEEE single with no float operation.
 ghost use Rattle.std.specs.Prelude.{◌<◌};
 
+use crate::numbers::Hundredths;
+use std::fmt;
+
 #[derive(Clone, Copy)]
 pub(crate) enum Angle {
     // Below 1,048,576 degrees: its size in whole hundredths, cut, and whether that is all of it.
@@ -44,5 +47,29 @@ pub(crate) fn angle_of(bits: u32) -> Angle {
         147..=254 => Angle::Beyond(negative),
         _ if rest == 0 => Angle::Infinite(negative),
         _ => Angle::NoNumber,
+    }
+}
+
+impl fmt::Display for Angle {
+    fn fmt<W: fmt::Write>(&self, f: &mut fmt::Formatter<W>) -> fmt::Result {
+        match *self {
+            Angle::Hundredths {
+                negative,
+                size,
+                exact,
+            } => {
+                let cut = match (exact, negative) {
+                    (true, _) => "",
+                    (_, true) => "a little under ",
+                    _ => "a little over ",
+                };
+                write!(f, "{cut}{}", Hundredths { negative, size })
+            }
+            Angle::Beyond(true) => write!(f, "under -1000000"),
+            Angle::Beyond(false) => write!(f, "over 1000000"),
+            Angle::Infinite(true) => write!(f, "-infinity"),
+            Angle::Infinite(false) => write!(f, "infinity"),
+            Angle::NoNumber => write!(f, "no number"),
+        }
     }
 }

@@ -11,7 +11,7 @@ mod words;
 ghost use Rattle.std.specs.Prelude.{◌≤◌, ◌-◌, length, IfOk};
 
 use citing::{answers, refusals};
-use printing::{behind, first, newline, read_full, word};
+use printing::{behind, first, read_full};
 use std::io;
 use std::io::Read;
 
@@ -40,7 +40,7 @@ fn say_questions(
 ) -> io::Result<()> {
     for (i, question) in questions.chunks(QUESTION).take(count).enumerate() {
         if 0 < i {
-            newline(out)?;
+            println!(out)?;
         }
         say_question(out, volume, question)?;
     }
@@ -65,10 +65,11 @@ fn case<'a>(out: &impl Print, input: &'a [u8]) -> io::Result<&'a [u8]>
 }
 
 fn each(out: &impl Print, input: &[u8]) -> io::Result<()> {
+    // By hand: a case says how long it is, so no chunks of one length part the input.
     let mut rest = input;
     while !rest.is_empty() {
         if rest.len() < input.len() {
-            newline(out)?;
+            println!(out)?;
         }
         rest = case(out, rest)?;
     }
@@ -80,7 +81,7 @@ fn run(out: &impl Print, input: &mut impl Read, buf: &mut [u8]) -> io::Result<()
     if n < buf.len() {
         each(out, first(buf, n))
     } else {
-        word(out, b"too long\n")
+        println!(out; "too long")
     }
 }
 

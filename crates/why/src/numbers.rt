@@ -1,32 +1,51 @@
-// Numbers on standard output: of a field, with its bytes, and in hundredths.
+// Numbers in text: of a field, with its bytes, and in hundredths.
 use citing::Field;
-use printing::{bare_signed, size, word};
-use std::io;
+use std::fmt;
 
-// A field of two bytes is a SHORT, any other an INT.
-pub(crate) fn print_found(out: &impl Print, f: Field) -> io::Result<()> {
+// The number of a field. One of two bytes is a SHORT, any other an INT.
+pub(crate) fn number_of(f: Field) -> i32 {
     match f.size {
-        2 => bare_signed(out, le::i16_of((f.found % 0x1_0000) as u16) as i32),
-        _ => bare_signed(out, le::i32_of(f.found)),
+        2 => i32::from(le::i16_of((f.found % 0x1_0000) as u16)),
+        _ => le::i32_of(f.found),
     }
 }
 
-// Hundredths of this size, with two decimals. Zero has no sign.
-pub(crate) fn print_size(out: &impl Print, negative: bool, size: u64) -> io::Result<()> {
-    if negative && 0 < size {
-        word(out, b"-")?;
-    }
-    print!(out; "{}.{:02}", size / 100, size % 100)
+// Hundredths by sign and size, with two decimals. Zero has no sign.
+#[derive(Clone, Copy)]
+pub(crate) struct Hundredths {
+    pub(crate) negative: bool,
+    pub(crate) size: u32,
 }
 
-pub(crate) fn print_hundredths(out: &impl Print, z: i32) -> io::Result<()> {
-    print_size(out, z < 0, size(z))
+impl From<i32> for Hundredths {
+    fn from(z: i32) -> Hundredths {
+        Hundredths {
+            negative: z < 0,
+            size: z.unsigned_abs(),
+        }
+    }
 }
 
-// In file order, which is the lowest first.
-pub(crate) fn print_bytes(out: &impl Print, f: Field) -> io::Result<()> {
-    for byte in f.found.to_le_bytes().iter().take(f.size) {
-        print!(out; " {byte:02X}")?;
+impl fmt::Display for Hundredths {
+    fn fmt<W: fmt::Write>(&self, f: &mut fmt::Formatter<W>) -> fmt::Result {
+        let sign = if self.negative && 0 < self.size {
+            "-"
+        } else {
+            ""
+        };
+        write!(f, "{sign}{}.{:02}", self.size / 100, self.size % 100)
     }
-    Ok(())
+}
+
+// The bytes of a field in file order, which is the lowest first.
+#[derive(Clone, Copy)]
+pub(crate) struct Bytes(pub(crate) Field);
+
+impl fmt::Display for Bytes {
+    fn fmt<W: fmt::Write>(&self, f: &mut fmt::Formatter<W>) -> fmt::Result {
+        for byte in self.0.found.to_le_bytes().iter().take(self.0.size) {
+            write!(f, " {byte:02X}")?;
+        }
+        Ok(())
+    }
 }

@@ -11,33 +11,30 @@ mod telling;
 mod volumes;
 
 use crate::records::Moments;
-use crate::telling::{print_bytes, print_index_answer, yes};
+use crate::telling::{Hex, print_index_answer, yes_or_no};
 use crate::volumes::{put_front, put_pair, put_radials};
-use printing::{first, newline, number, sum, word};
+use printing::{first, sum};
 use std::io;
 use walk::due::Walk;
 
-// Whether the first n bytes of a room are the index of a file.
-fn print_right(out: &impl Print, file: &[u8], room: &[u8], n: usize) -> io::Result<()> {
-    yes(out, index::right(file, first(room, n)))
-}
-
 // The index, whether it is right, and whether it is with a byte changed in the place of the second radial.
 fn print_written(out: &impl Print, file: &[u8], room: &mut [u8; 200], n: usize) -> io::Result<()> {
-    number(out, n as u64)?;
-    word(out, b" ")?;
-    print_bytes(out, first(room, n))?;
-    print_right(out, file, room, n)?;
+    let index = first(room, n);
+    print!(out;
+        " {n} {} {}",
+        Hex(index),
+        yes_or_no(index::right(file, index))
+    )?;
     room[22] = 255;
-    print_right(out, file, room, n)
+    print!(out; " {}", yes_or_no(index::right(file, first(room, n))))
 }
 
 fn print_index(out: &impl Print, file: &[u8]) -> io::Result<()> {
     let mut room = [0xa5u8; 200];
     let answer = index::write(file, &mut room);
-    word(out, b"index")?;
+    print!(out; "index")?;
     print_index_answer(out, answer, |n| print_written(out, file, &mut room, n))?;
-    newline(out)
+    println!(out)
 }
 
 fn print_volume(
@@ -47,17 +44,11 @@ fn print_volume(
     room: &[u8],
     w: Walk,
 ) -> io::Result<()> {
-    word(out, b"scan type")?;
-    number(out, scan_type as u64)?;
-    word(out, b", moments")?;
-    number(out, moments as u64)?;
-    word(out, b":")?;
+    print!(out; "scan type {scan_type}, moments {}:", moments as u64)?;
     let file = first(room, w.at);
     printing::print_reading(out, reading::read(file))?;
     printing::print_lines(out, file)?;
-    word(out, b"room")?;
-    number(out, sum(room) as u64)?;
-    newline(out)?;
+    println!(out; "room {}", sum(room))?;
     print_index(out, file)
 }
 

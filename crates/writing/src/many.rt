@@ -4,12 +4,12 @@ ghost use Rattle.std.specs.Prelude.{◌<◌};
 
 use crate::records;
 use crate::records::{Facts, Moments};
-use crate::telling::{print_bytes, print_index_answer, yes};
+use crate::telling::{Hex, print_index_answer, yes_or_no};
 use crate::volumes::{put_front, put_radials};
-use printing::{behind, first, newline, number, print_reading, refused, sum, word};
+use printing::{behind, first, print_reading, sum};
 use reading::step::Step;
 use reading::take;
-use std::io;
+use std::{fmt, io};
 use walk::due::{Walk, is_end};
 
 // The state of a radial that is number `number` of its cut, of which `last` is the last.
@@ -59,15 +59,12 @@ fn other_form(index: &[u8], room: &mut [u8]) -> usize {
 
 // The sum of an index, and whether it is right.
 fn print_judged(out: &impl Print, file: &[u8], index: &[u8]) -> io::Result<()> {
-    number(out, sum(index) as u64)?;
-    yes(out, index::right(file, index))
+    print!(out; " {} {}", sum(index), yes_or_no(index::right(file, index)))
 }
 
 // Its length, the start and the first cut's count, and each form's sum and whether it is right.
 fn print_forms(out: &impl Print, file: &[u8], index: &[u8]) -> io::Result<()> {
-    number(out, index.len() as u64)?;
-    word(out, b" ")?;
-    print_bytes(out, first(index, 5))?;
+    print!(out; " {} {}", index.len(), Hex(first(index, 5)))?;
     print_judged(out, file, index)?;
     let mut room = [0u8; 4700];
     let n = other_form(index, &mut room);
@@ -77,9 +74,9 @@ fn print_forms(out: &impl Print, file: &[u8], index: &[u8]) -> io::Result<()> {
 fn print_index(out: &impl Print, file: &[u8]) -> io::Result<()> {
     let mut room = [0xa5u8; 4700];
     let answer = index::write(file, &mut room);
-    word(out, b"index")?;
+    print!(out; "index")?;
     print_index_answer(out, answer, |n| print_forms(out, file, first(&room, n)))?;
-    newline(out)
+    println!(out)
 }
 
 fn many(out: &impl Print, cuts: u16) -> io::Result<()> {
@@ -87,13 +84,9 @@ fn many(out: &impl Print, cuts: u16) -> io::Result<()> {
     let mut w = put_front(out, &mut room, 0, cuts as u32)?;
     w = put_layers(out, w, &mut room, cuts)?;
     let file = first(&room, w.at);
-    word(out, b"cuts")?;
-    number(out, cuts as u64)?;
-    word(out, b":")?;
+    print!(out; "cuts {cuts}:")?;
     print_reading(out, reading::read(file))?;
-    word(out, b"room")?;
-    number(out, sum(&room) as u64)?;
-    newline(out)?;
+    println!(out; "room {}", sum(&room))?;
     print_index(out, file)
 }
 
@@ -102,8 +95,7 @@ fn onward(out: &impl Print, step: Step, w: Walk) -> io::Result<Walk> {
     match step {
         Step::Took(v) => Ok(v),
         Step::Refused(n, place) => {
-            refused(out, n)?;
-            number(out, place as u64)?;
+            print!(out; " refused {n} {place}")?;
             Ok(w)
         }
         Step::Open(_) | Step::Complete => Ok(w),
@@ -146,59 +138,54 @@ fn behind_radials(out: &impl Print, w: Walk, cuts: u16, each: u16, radials: u16)
 }
 
 // The bytes and the whole radials up to here, and whether the volume is over.
-fn print_walk(out: &impl Print, w: Walk) -> io::Result<()> {
-    number(out, w.at as u64)?;
-    number(out, w.count.whole as u64)?;
-    yes(out, is_end(w.due))?;
-    newline(out)
+#[derive(Clone, Copy)]
+struct Here(Walk);
+
+impl fmt::Display for Here {
+    fn fmt<W: fmt::Write>(&self, f: &mut fmt::Formatter<W>) -> fmt::Result {
+        let w = self.0;
+        write!(f, "{} {} {}", w.at, w.count.whole, yes_or_no(is_end(w.due)))
+    }
 }
 
-fn try_radial(out: &impl Print, label: &[u8], w: Walk, f: Facts) -> io::Result<Walk> {
-    word(out, label)?;
-    word(out, b":")?;
+fn try_radial(out: &impl Print, label: &str, w: Walk, f: Facts) -> io::Result<Walk> {
+    print!(out; "{label}:")?;
     let v = take_radial(out, w, f)?;
-    print_walk(out, v)?;
+    println!(out; " {}", Here(v))?;
     Ok(v)
 }
 
 // The last of 65,536 radials closes the volume; one that does not is refused, and so is a number behind the last.
 fn longest(out: &impl Print) -> io::Result<()> {
     let w = behind_radials(out, behind_cuts(out, 256)?, 256, 256, 65535)?;
-    word(out, b"65535 radials:")?;
-    print_walk(out, w)?;
+    println!(out; "65535 radials: {}", Here(w))?;
     try_radial(
         out,
-        b"radial 65536, closing",
+        "radial 65536, closing",
         w,
         facts(256, 256, 256, 256, 65536),
     )?;
     try_radial(
         out,
-        b"40, radial 65536",
+        "40, radial 65536",
         w,
         facts(256, 256, 256, 1000, 65536),
     )?;
-    try_radial(
-        out,
-        b"12, radial 65537",
-        w,
-        facts(256, 256, 257, 257, 65537),
-    )?;
+    try_radial(out, "12, radial 65537", w, facts(256, 256, 257, 257, 65537))?;
     Ok(())
 }
 
 // The last that a cut can have closes it; one that does not is refused.
 fn long_cut(out: &impl Print, w: Walk) -> io::Result<()> {
     let v = behind_radials(out, w, 68, 1000, 999)?;
-    word(out, b"999 radials of a cut:")?;
-    print_walk(out, v)?;
+    println!(out; "999 radials of a cut: {}", Here(v))?;
     try_radial(
         out,
-        b"radial 1000, closing",
+        "radial 1000, closing",
         v,
         facts(68, 1, 1000, 1000, 1000),
     )?;
-    try_radial(out, b"40, radial 1000", v, facts(68, 1, 1000, 1001, 1000))?;
+    try_radial(out, "40, radial 1000", v, facts(68, 1, 1000, 1001, 1000))?;
     Ok(())
 }
 
@@ -207,38 +194,37 @@ fn crowded(out: &impl Print) -> io::Result<()> {
     let w = behind_cuts(out, 68)?;
     long_cut(out, w)?;
     let mut v = behind_radials(out, w, 68, 1000, 65531)?;
-    word(out, b"65531 radials, in cut 66 of 68:")?;
-    print_walk(out, v)?;
-    try_radial(out, b"40, radial 65532", v, facts(68, 66, 532, 1000, 65532))?;
+    println!(out; "65531 radials, in cut 66 of 68: {}", Here(v))?;
+    try_radial(out, "40, radial 65532", v, facts(68, 66, 532, 1000, 65532))?;
     v = try_radial(
         out,
-        b"radial 65532, closing cut 66",
+        "radial 65532, closing cut 66",
         v,
         facts(68, 66, 532, 532, 65532),
     )?;
     v = try_radial(
         out,
-        b"radial 65533, opening cut 67",
+        "radial 65533, opening cut 67",
         v,
         facts(68, 67, 1, 2, 65533),
     )?;
-    try_radial(out, b"40, radial 65534", v, facts(68, 67, 2, 3, 65534))?;
+    try_radial(out, "40, radial 65534", v, facts(68, 67, 2, 3, 65534))?;
     v = try_radial(
         out,
-        b"radial 65534, closing cut 67",
+        "radial 65534, closing cut 67",
         v,
         facts(68, 67, 2, 2, 65534),
     )?;
     v = try_radial(
         out,
-        b"radial 65535, opening cut 68",
+        "radial 65535, opening cut 68",
         v,
         facts(68, 68, 1, 2, 65535),
     )?;
-    try_radial(out, b"40, radial 65536", v, facts(68, 68, 2, 3, 65536))?;
+    try_radial(out, "40, radial 65536", v, facts(68, 68, 2, 3, 65536))?;
     try_radial(
         out,
-        b"radial 65536, closing cut 68",
+        "radial 65536, closing cut 68",
         v,
         facts(68, 68, 2, 2, 65536),
     )?;

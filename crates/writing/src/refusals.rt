@@ -1,10 +1,10 @@
 // Each refusal of the writer and of the index, once: the answer, and that the room and the state stay as they were.
 use crate::records;
 use crate::records::{Facts, Moments};
-use crate::telling::{onward, print_index_answer, print_rooms, try_put};
+use crate::telling::{onward, print_index_answer, try_put};
 use crate::volumes::{put_front, put_pair, put_radial, put_start, put_task};
 use cut::Cut;
-use printing::{first, newline, number, sum, word};
+use printing::{first, sum};
 use radial::Radial;
 use std::io;
 use walk::due::Walk;
@@ -27,7 +27,7 @@ fn opening() -> Radial {
 
 fn try_header(
     out: &impl Print,
-    label: &[u8],
+    label: &str,
     w: Walk,
     room: &mut [u8],
     header: Radial,
@@ -42,21 +42,21 @@ fn try_header(
 }
 
 // A volume's first radial onto a state and a room as they are given.
-fn try_radial(out: &impl Print, label: &[u8], w: Walk, room: &mut [u8]) -> io::Result<()> {
+fn try_radial(out: &impl Print, label: &str, w: Walk, room: &mut [u8]) -> io::Result<()> {
     try_header(out, label, w, room, opening())
 }
 
 fn after_the_end(out: &impl Print) -> io::Result<()> {
     let mut room = [0xa5u8; 1000];
     let w = put_pair(out, &mut room, 0, Moments::Narrow)?;
-    try_radial(out, b"25, a radial after the end", w, &mut room)
+    try_radial(out, "25, a radial after the end", w, &mut room)
 }
 
 fn another_kind(out: &impl Print) -> io::Result<()> {
     let mut room = [0xa5u8; 1000];
     try_radial(
         out,
-        b"34, a radial before all else",
+        "34, a radial before all else",
         Walk::begin(),
         &mut room,
     )
@@ -65,13 +65,13 @@ fn another_kind(out: &impl Print) -> io::Result<()> {
 fn short_room(out: &impl Print) -> io::Result<()> {
     let mut room = [0xa5u8; 735];
     let w = put_front(out, &mut room, 0, 1)?;
-    try_radial(out, b"33, a room of 735 bytes", w, &mut room)
+    try_radial(out, "33, a room of 735 bytes", w, &mut room)
 }
 
 // A task onto a state and a room as they are given.
 fn try_task(
     out: &impl Print,
-    label: &[u8],
+    label: &str,
     w: Walk,
     room: &mut [u8],
     scan_type: u32,
@@ -91,19 +91,19 @@ fn too_many_cuts(out: &impl Print) -> io::Result<()> {
     let mut room = [0xa5u8; 1000];
     try_task(
         out,
-        b"34 ahead of 8, 257 cuts before all else",
+        "34 ahead of 8, 257 cuts before all else",
         Walk::begin(),
         &mut room,
         0,
         257,
     )?;
     let w = put_start(out, &mut room)?;
-    try_task(out, b"8, 257 cuts", w, &mut room, 0, 257)?;
+    try_task(out, "8, 257 cuts", w, &mut room, 0, 257)?;
     let mut short = [0xa5u8; 160];
     let v = put_start(out, &mut short)?;
     try_task(
         out,
-        b"8 ahead of 33, 257 cuts in a room of 160 bytes",
+        "8 ahead of 33, 257 cuts in a room of 160 bytes",
         v,
         &mut short,
         0,
@@ -115,17 +115,17 @@ fn too_many_cuts(out: &impl Print) -> io::Result<()> {
 fn layers(out: &impl Print) -> io::Result<()> {
     let mut room = [0xa5u8; 1500];
     let u = put_start(out, &mut room)?;
-    try_task(out, b"8, type 2 in two layers", u, &mut room, 2, 2)?;
+    try_task(out, "8, type 2 in two layers", u, &mut room, 2, 2)?;
     let mut w = put_front(out, &mut room, 5, 2)?;
     w = put_radial(out, w, &mut room, narrow(5, 1, 1, 1))?;
     let closing = records::radial(narrow(2, 2, 2, 1));
-    try_header(out, b"10, a layer closed by 2", w, &mut room, closing)?;
+    try_header(out, "10, a layer closed by 2", w, &mut room, closing)?;
     w = put_radial(out, w, &mut room, narrow(6, 2, 2, 1))?;
     let second = records::radial(narrow(0, 3, 1, 2));
-    try_header(out, b"10, a layer opened by 0", w, &mut room, second)
+    try_header(out, "10, a layer opened by 0", w, &mut room, second)
 }
 
-fn try_cut(out: &impl Print, label: &[u8], w: Walk, room: &mut [u8], cut: Cut) -> io::Result<()> {
+fn try_cut(out: &impl Print, label: &str, w: Walk, room: &mut [u8], cut: Cut) -> io::Result<()> {
     try_put(out, label, w, room, |w, room| writer::put_cut(w, room, cut))
 }
 
@@ -136,7 +136,7 @@ fn no_type(out: &impl Print) -> io::Result<()> {
     cut.moments_mask = 0;
     try_cut(
         out,
-        b"34 ahead of 40, a cut of no type before all else",
+        "34 ahead of 40, a cut of no type before all else",
         Walk::begin(),
         &mut room,
         cut,
@@ -145,7 +145,7 @@ fn no_type(out: &impl Print) -> io::Result<()> {
     let w = put_task(out, v, &mut room, 0, 1)?;
     try_cut(
         out,
-        b"40 ahead of 33, a cut of no type in a room of 416 bytes",
+        "40 ahead of 33, a cut of no type in a room of 416 bytes",
         w,
         &mut room,
         cut,
@@ -153,7 +153,7 @@ fn no_type(out: &impl Print) -> io::Result<()> {
     cut.process_mode = 0;
     try_cut(
         out,
-        b"9 ahead of 40, a cut of no type and process mode 0",
+        "9 ahead of 40, a cut of no type and process mode 0",
         w,
         &mut room,
         cut,
@@ -169,7 +169,7 @@ fn no_moments(out: &impl Print) -> io::Result<()> {
     header.length_of_data = 132;
     try_header(
         out,
-        b"40 ahead of 33, three moments of two types",
+        "40 ahead of 33, three moments of two types",
         w,
         &mut room,
         header,
@@ -177,7 +177,7 @@ fn no_moments(out: &impl Print) -> io::Result<()> {
     header.spot_blank = 2;
     try_header(
         out,
-        b"11 ahead of 40, three moments of two types and spot blank 2",
+        "11 ahead of 40, three moments of two types and spot blank 2",
         w,
         &mut room,
         header,
@@ -195,7 +195,7 @@ fn odd_rest(out: &impl Print) -> io::Result<()> {
     header.length = 5;
     try_put(
         out,
-        b"40 ahead of 33, seven bytes for a two-byte type",
+        "40 ahead of 33, seven bytes for a two-byte type",
         w,
         &mut room,
         |w, room| writer::put_moment(w, room, header),
@@ -209,7 +209,7 @@ fn short_data(out: &impl Print) -> io::Result<()> {
     let w = onward(out, writer::put_moment(v, &mut room, records::moment(2, 1)))?;
     try_put(
         out,
-        b"35, three bytes of four",
+        "35, three bytes of four",
         w,
         &mut room,
         |w, room| writer::put_data(w, room, b"\x05\x06\x07"),
@@ -221,9 +221,9 @@ fn other_ends(out: &impl Print) -> io::Result<()> {
     let mut room = [0xa5u8; 1000];
     let mut w = put_front(out, &mut room, 0, 1)?;
     w.at = 1001;
-    try_radial(out, b"37, more bytes than the room has", w, &mut room)?;
+    try_radial(out, "37, more bytes than the room has", w, &mut room)?;
     w.at = 600;
-    try_radial(out, b"37, the end is inside a block", w, &mut room)
+    try_radial(out, "37, the end is inside a block", w, &mut room)
 }
 
 // A state and a room that do not agree on what is written.
@@ -232,26 +232,21 @@ fn other_blocks(out: &impl Print) -> io::Result<()> {
     let w = put_front(out, &mut room, 0, 1)?;
     let mut other = w;
     other.plan.cuts = 2;
-    try_radial(out, b"37, another number of cuts", other, &mut room)?;
+    try_radial(out, "37, another number of cuts", other, &mut room)?;
     room[0] = 0;
-    try_radial(out, b"37, another first byte", w, &mut room)?;
+    try_radial(out, "37, another first byte", w, &mut room)?;
     room[0] = 0x52;
     room[500] = 0;
-    try_radial(out, b"37, a cut of no type", w, &mut room)
+    try_radial(out, "37, a cut of no type", w, &mut room)
 }
 
 // The room of an index, before and after what is refused.
-fn try_index(out: &impl Print, label: &[u8], file: &[u8], room: &mut [u8]) -> io::Result<()> {
+fn try_index(out: &impl Print, label: &str, file: &[u8], room: &mut [u8]) -> io::Result<()> {
     let before = sum(room);
     let answer = index::write(file, room);
-    word(out, label)?;
-    word(out, b":")?;
-    print_index_answer(out, answer, |n| {
-        word(out, b" written")?;
-        number(out, n as u64)
-    })?;
-    print_rooms(out, before, room)?;
-    newline(out)
+    print!(out; "{label}:")?;
+    print_index_answer(out, answer, |n| print!(out; " written {n}"))?;
+    println!(out; ", room {before} {}", sum(room))
 }
 
 fn index_refusals(out: &impl Print) -> io::Result<()> {
@@ -260,13 +255,13 @@ fn index_refusals(out: &impl Print) -> io::Result<()> {
     let mut room = [0xa5u8; 22];
     try_index(
         out,
-        b"36, an index of an open file",
+        "36, an index of an open file",
         first(&file, 871),
         &mut room,
     )?;
     try_index(
         out,
-        b"33, a room of 22 bytes for an index of 23",
+        "33, a room of 22 bytes for an index of 23",
         first(&file, w.at),
         &mut room,
     )
