@@ -1,5 +1,5 @@
-// What the programs share: words, numbers, counts and listings on standard output, standard input read into a room, the start and the
-// rest of a slice, and a room filled and shown in one number.
+// What the programs share: verdicts, counts and listings on standard output, standard input read into a room, the start and the rest
+// of a slice, and a room filled and shown in one number.
 #![tactic(auto)]
 
 ghost use Rattle.std.specs.Prelude.{◌≡◌, ◌≤◌, IfOk, nat_abs, length, take, drop, replicate};
@@ -41,44 +41,14 @@ pub fn read_full(input: &mut impl Read, room: &mut [u8]) -> io::Result<usize>
     Ok(done)
 }
 
-pub fn word(out: &impl Print, text: &[u8]) -> io::Result<()> {
-    out.write_all(text)
-}
-
-pub fn newline(out: &impl Print) -> io::Result<()> {
-    println!(out)
-}
-
-// With nothing before it, for a number that another sign than a space parts from the last.
-pub fn bare(out: &impl Print, n: u64) -> io::Result<()> {
-    out.print(n)
-}
-
-pub fn number(out: &impl Print, n: u64) -> io::Result<()> {
-    print!(out; " {n}")
-}
-
-// The size of a signed number.
+// The size of a signed number: std's own, and the edit `one_too_large` holds it.
 pub fn size(z: i32) -> u64
     ensures { result ≡ nat_abs z }
 {
     u64::from(z.unsigned_abs())
 }
 
-// With nothing before it, as `bare`.
-pub fn bare_signed(out: &impl Print, z: i32) -> io::Result<()> {
-    out.print(z)
-}
-
-pub fn bare_refused(out: &impl Print, n: u32) -> io::Result<()> {
-    print!(out; "refused {n}")
-}
-
-pub fn refused(out: &impl Print, n: u32) -> io::Result<()> {
-    print!(out; " refused {n}")
-}
-
-// With nothing before it, as `bare`.
+// With nothing before it, for a line that begins with it.
 pub fn bare_verdict(out: &impl Print, v: Verdict) -> io::Result<()> {
     match v {
         Verdict::Complete => print!(out; "complete"),
@@ -106,34 +76,17 @@ pub fn sum(s: &[u8]) -> u32
     s.iter().fold(0, |n, b| mixed(n, u32::from(*b)))
 }
 
-// The checksum of all of a room, at a line's end, so that no byte is stored unseen.
-pub fn print_sum(out: &impl Print, room: &[u8]) -> io::Result<()> {
-    println!(out; " {}", sum(room))
-}
-
-// What is told of a volume, and how many whole radials it has.
-pub fn print_read(out: &impl Print, r: Reading) -> io::Result<()> {
-    print_verdict(out, r.verdict)?;
-    print!(out; " {}", r.radials)
-}
-
 // A written volume for the command line: its length, and behind that line its bytes as they are.
 pub fn print_volume(out: &impl Print, volume: &[u8]) -> io::Result<()> {
     println!(out; "written {}", volume.len())?;
-    word(out, volume)
+    out.write_all(volume)
 }
 
-// One byte all over a room, so that what is stored there afterwards shows.
+// One byte all over a room, so that what is stored there afterwards shows: std's own, and the edit `one_too_large` holds it.
 pub fn fill(room: &mut [u8], byte: u8)
     ensures { room.new ≡ replicate (length room.old) byte }
 {
     room.fill(byte);
-}
-
-// A number behind a sign.
-pub fn part(out: &impl Print, sign: &[u8], n: u64) -> io::Result<()> {
-    word(out, sign)?;
-    bare(out, n)
 }
 
 // The seven counts of a tally, each behind a sign.
@@ -148,7 +101,8 @@ pub fn print_counts(out: &impl Print, sign: &[u8], c: Counts) -> io::Result<()> 
         c.class,
     ];
     for n in counts {
-        part(out, sign, n)?;
+        out.write_all(sign)?;
+        print!(out; "{n}")?;
     }
     Ok(())
 }
