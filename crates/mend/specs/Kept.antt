@@ -14,8 +14,8 @@ kept f = kept_after 0 (stretches f)
 
 -- the last of some radials
 unfoldable pub last_or : Option Stretch → List Stretch → Option Stretch
-last_or none [] = none
-last_or none (s ∷ ss) = last_or (Some s) ss
+last_or before [] = before
+last_or before (s ∷ ss) = last_or (Some s) ss
 
 abbrev pub last_kept : List ℕ → Option Stretch
 last_kept f = last_or None (kept f)
