@@ -10,6 +10,7 @@ use moment::Moment;
 use radial::Radial;
 use reading::Stretch;
 
+// Not a Result, here and below: of a refusal the place and the header are promised too, all zeros (`radial_told`, `moment_told`).
 // 0, or the refusal's number; the radial's place, and its header.
 #[derive(Clone, Copy)]
 pub struct RadialAnswer {

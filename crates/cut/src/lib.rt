@@ -1,12 +1,12 @@
 // The cut block (table 2-5): 256 bytes, every one of them in a field. INT, SHORT and FLOAT fields are carried as their bits.
 #![tactic(auto)]
 
-ghost use Rattle.std.specs.Prelude.{◌≡◌, ◌+◌, ◌≤◌, length};
-ghost use Rattle.le.specs.Le.{stored, patch};
+ghost use Rattle.std.specs.Prelude.{◌≡◌, ◌+◌, ◌≤◌, length, pos};
+ghost use Rattle.le.specs.Le.{stored, patch, int};
+ghost use Rattle.rules.specs.Ranges.{among};
 ghost use Rattle.cut.specs.Cut.{cut_of, cut_at, cut_bytes, cut_size, cut_check};
 
 use rules::check::{Clause, rule};
-use rules::ranges::among;
 
 #[derive(Clone, Copy)]
 pub struct Cut {
@@ -296,25 +296,81 @@ impl Cut {
         ensures { result ≡ cut_check self }
     {
         rule(
-            among(1, 2, self.process_mode),
+            process_mode_ok(self.process_mode),
             9,
             Self::PROCESS_MODE as u8,
             4,
         )?;
-        rule(among(0, 6, self.wave_form), 9, Self::WAVE_FORM as u8, 4)?;
-        rule(among(1, 4, self.unfold_mode), 9, Self::UNFOLD_MODE as u8, 4)?;
+        rule(wave_form_ok(self.wave_form), 9, Self::WAVE_FORM as u8, 4)?;
         rule(
-            among(1, 5000, self.log_resolution),
+            unfold_mode_ok(self.unfold_mode),
+            9,
+            Self::UNFOLD_MODE as u8,
+            4,
+        )?;
+        rule(
+            resolution_ok(self.log_resolution),
             9,
             Self::LOG_RESOLUTION as u8,
             4,
         )?;
         rule(
-            among(1, 5000, self.doppler_resolution),
+            resolution_ok(self.doppler_resolution),
             9,
             Self::DOPPLER_RESOLUTION as u8,
             4,
         )?;
-        rule(among(1, 3, self.phase_mode), 9, Self::PHASE_MODE as u8, 4)
+        rule(phase_mode_ok(self.phase_mode), 9, Self::PHASE_MODE as u8, 4)
+    }
+}
+
+// One function a range: each rule of a field is decided by a match with ranges, and no range of a match is a parameter.
+// Number 9 (table 2-5): the first of its six fields.
+fn process_mode_ok(x: u32) -> bool
+    ensures { result ≡ among (pos 1) (pos 2) (int x) }
+{
+    match x {
+        1..=2 => true,
+        _ => false,
+    }
+}
+
+// Number 9.
+fn wave_form_ok(x: u32) -> bool
+    ensures { result ≡ among (pos 0) (pos 6) (int x) }
+{
+    match x {
+        0..=6 => true,
+        _ => false,
+    }
+}
+
+// Number 9.
+fn unfold_mode_ok(x: u32) -> bool
+    ensures { result ≡ among (pos 1) (pos 4) (int x) }
+{
+    match x {
+        1..=4 => true,
+        _ => false,
+    }
+}
+
+// Number 9: the log and the Doppler resolution.
+fn resolution_ok(x: u32) -> bool
+    ensures { result ≡ among (pos 1) (pos 5000) (int x) }
+{
+    match x {
+        1..=5000 => true,
+        _ => false,
+    }
+}
+
+// Number 9.
+fn phase_mode_ok(x: u32) -> bool
+    ensures { result ≡ among (pos 1) (pos 3) (int x) }
+{
+    match x {
+        1..=3 => true,
+        _ => false,
     }
 }

@@ -28,6 +28,7 @@ fn padded<const N: usize>(tail: &[u8]) -> [u8; N]
     bytes
 }
 
+// A function for each width, here and below: std has these conversions on each type, and in no trait.
 pub fn u16_at(s: &[u8], at: usize) -> u16
     ensures { result ≡ le 2 s.now at }
 {

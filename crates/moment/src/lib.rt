@@ -1,12 +1,12 @@
 // The moment header block (table 3-2): 32 bytes, every one of them in a field. INT, SHORT and FLOAT fields are carried as their bits.
 #![tactic(auto)]
 
-ghost use Rattle.std.specs.Prelude.{◌≡◌, ◌+◌, ◌≤◌, length};
-ghost use Rattle.le.specs.Le.{stored, patch};
+ghost use Rattle.std.specs.Prelude.{◌≡◌, ◌+◌, ◌≤◌, length, pos};
+ghost use Rattle.le.specs.Le.{stored, patch, int};
+ghost use Rattle.rules.specs.Ranges.{among};
 ghost use Rattle.moment.specs.Moment.{moment_of, moment_at, moment_bytes, moment_size, moment_check};
 
 use rules::check::{Clause, clauses, rule};
-use rules::ranges::among;
 use rules::{masks, tiling};
 
 #[derive(Clone, Copy)]
@@ -99,8 +99,8 @@ impl Moment {
             Self::DATA_TYPE as u8,
             4,
         )?;
-        rule(among(1, 32768, self.scale), 21, Self::SCALE as u8, 4)?;
-        rule(among(0, 32768, self.offset), 22, Self::OFFSET as u8, 4)?;
+        rule(scale_ok(self.scale), 21, Self::SCALE as u8, 4)?;
+        rule(offset_ok(self.offset), 22, Self::OFFSET as u8, 4)?;
         clauses(
             masks::bin_length_breaks(due.sizes, self.data_type, self.bin_length),
             23,
@@ -113,5 +113,26 @@ impl Moment {
             Self::LENGTH as u8,
             4,
         )
+    }
+}
+
+// One function a range: each rule of a field is decided by a match with ranges, and no range of a match is a parameter.
+// Number 21 (table 3-2).
+fn scale_ok(x: u32) -> bool
+    ensures { result ≡ among (pos 1) (pos 32768) (int x) }
+{
+    match x {
+        1..=32768 => true,
+        _ => false,
+    }
+}
+
+// Number 22 (table 3-2).
+fn offset_ok(x: u32) -> bool
+    ensures { result ≡ among (pos 0) (pos 32768) (int x) }
+{
+    match x {
+        0..=32768 => true,
+        _ => false,
     }
 }

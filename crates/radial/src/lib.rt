@@ -1,14 +1,14 @@
 // The radial header block (table 3-1): 64 bytes, every one of them in a field. INT, SHORT and FLOAT fields are carried as their bits.
 #![tactic(auto)]
 
-ghost use Rattle.std.specs.Prelude.{◌≡◌, ◌+◌, ◌≤◌, length};
+ghost use Rattle.std.specs.Prelude.{◌≡◌, ◌+◌, ◌≤◌, length, pos};
 ghost use Rattle.le.specs.Le.{stored, patch, int};
 ghost use Rattle.rules.specs.Check.{breaks};
-ghost use Rattle.rules.specs.Ranges.{is, count_clauses};
+ghost use Rattle.rules.specs.Ranges.{among, is, count_clauses};
 ghost use Rattle.radial.specs.Radial.{radial_of, radial_at, radial_bytes, radial_size, radial_check};
 
 use rules::check::{Clause, clauses, rule};
-use rules::ranges::{among, not_below_zero};
+use rules::ranges::not_below_zero;
 use rules::{angles, states, tiling};
 
 #[derive(Clone, Copy)]
@@ -134,7 +134,12 @@ impl Radial {
             Self::STATE as u8,
             4,
         )?;
-        rule(among(0, 1, self.spot_blank), 11, Self::SPOT_BLANK as u8, 4)?;
+        rule(
+            spot_blank_ok(self.spot_blank),
+            11,
+            Self::SPOT_BLANK as u8,
+            4,
+        )?;
         clauses(
             count_breaks(65536, due.before, self.sequence),
             12,
@@ -162,13 +167,13 @@ impl Radial {
         )?;
         rule(not_below_zero(self.seconds), 17, Self::SECONDS as u8, 4)?;
         rule(
-            among(0, 999999, self.microseconds),
+            microseconds_ok(self.microseconds),
             17,
             Self::MICROSECONDS as u8,
             4,
         )?;
         rule(
-            among(1, 100000, self.length_of_data),
+            length_of_data_ok(self.length_of_data),
             18,
             Self::LENGTH_OF_DATA as u8,
             4,
@@ -198,6 +203,37 @@ fn elevation_number_ok(cut: u32, x: u32) -> bool
 {
     match x {
         0..=0x7fff_ffff => x == cut,
+        _ => false,
+    }
+}
+
+// One function a range: each rule of a field is decided by a match with ranges, and no range of a match is a parameter.
+// Number 11 (table 3-1).
+fn spot_blank_ok(x: u32) -> bool
+    ensures { result ≡ among (pos 0) (pos 1) (int x) }
+{
+    match x {
+        0..=1 => true,
+        _ => false,
+    }
+}
+
+// Number 17 (table 3-1), its second field.
+fn microseconds_ok(x: u32) -> bool
+    ensures { result ≡ among (pos 0) (pos 999999) (int x) }
+{
+    match x {
+        0..=999999 => true,
+        _ => false,
+    }
+}
+
+// Number 18 (table 3-1).
+fn length_of_data_ok(x: u32) -> bool
+    ensures { result ≡ among (pos 1) (pos 100000) (int x) }
+{
+    match x {
+        1..=100000 => true,
         _ => false,
     }
 }

@@ -39,6 +39,7 @@ pub struct Stretch {
     pub cut: u32,
 }
 
+// Not a Result: a walk that stops is no error, and a caller goes on with it.
 #[derive(Clone, Copy)]
 pub enum Onward {
     // A further radial is whole: its stretch, and the walk after it.

@@ -4,6 +4,7 @@
 ghost use Rattle.std.specs.Prelude.{◌≡◌};
 ghost use Rattle.rules.specs.Ranges.{latitude_bits, longitude_bits, azimuth_bits, elevation_bits};
 
+// One function an angle: the ranges of a match are no parameters.
 // Number 3 (table 2-3): -90..90.
 pub fn latitude_ok(bits: u32) -> bool
     ensures { result ≡ latitude_bits bits }

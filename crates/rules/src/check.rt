@@ -2,6 +2,7 @@
 ghost use Rattle.std.specs.Prelude.{◌≡◌, Ok, [], ◌∷◌};
 ghost use Rattle.rules.specs.Check.{also as also_of, breaks as breaks_of};
 
+// The numbers are the table's own, by which a refusal is told: an enum would be a second name for each.
 // A clause of the table: the refusal's number, which of its field's clauses it is, in the table's order from 1, and the field, by its
 // place in the block and its size in bytes.
 #[derive(Clone, Copy)]

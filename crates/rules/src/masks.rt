@@ -1,9 +1,9 @@
 // Masks (document 01): which types a cut has, and how many bytes a gate of each takes.
-ghost use Rattle.std.specs.Prelude.{◌≡◌};
+ghost use Rattle.std.specs.Prelude.{◌≡◌, pos};
+ghost use Rattle.le.specs.Le.{int};
+ghost use Rattle.rules.specs.Ranges.{among};
 ghost use Rattle.rules.specs.Check.{breaks};
 ghost use Rattle.rules.specs.Masks.{bit as bit_of, with_bit, type_clauses, bin_length_clauses};
-
-use crate::ranges::among;
 
 // Whether a mask has the bit of type t.
 pub fn bit(mask: u64, t: u32) -> bool
@@ -25,11 +25,20 @@ pub fn with_bit(mask: u64, t: u32) -> u64
     }
 }
 
+fn type_in_range(x: u32) -> bool
+    ensures { result ≡ among (pos 1) (pos 64) (int x) }
+{
+    match x {
+        1..=64 => true,
+        _ => false,
+    }
+}
+
 // Which clause of number 20 (table 3-2) a type breaks first.
 pub fn type_breaks(mask: u64, seen: u64, x: u32) -> u8
     ensures { result ≡ breaks (type_clauses mask seen x) }
 {
-    if among(1, 64, x) {
+    if type_in_range(x) {
         if bit(seen, x) {
             return 2;
         }

@@ -1,9 +1,9 @@
 // Tiling (document 01): how many moments a radial has, and how they fill its data.
-ghost use Rattle.std.specs.Prelude.{◌≡◌, ◌%◌, eqb};
+ghost use Rattle.std.specs.Prelude.{◌≡◌, ◌%◌, eqb, pos};
+ghost use Rattle.le.specs.Le.{int};
+ghost use Rattle.rules.specs.Ranges.{among};
 ghost use Rattle.rules.specs.Check.{breaks};
 ghost use Rattle.rules.specs.Tiling.{moment_number_clauses, tiles, length_clauses};
-
-use crate::ranges::among;
 
 // Which clause of number 19 (table 3-1) a moment number breaks first.
 pub fn moment_number_breaks(left: u32, x: u32) -> u8
@@ -12,6 +12,15 @@ pub fn moment_number_breaks(left: u32, x: u32) -> u8
     match x {
         1..=64 => if 33 * x <= left { 0 } else { 2 },
         _ => 1,
+    }
+}
+
+fn length_in_range(x: u32) -> bool
+    ensures { result ≡ among (pos 1) (pos 32768) (int x) }
+{
+    match x {
+        1..=32768 => true,
+        _ => false,
     }
 }
 
@@ -44,7 +53,7 @@ fn multiple(bin: u16, x: u32) -> bool
 pub fn length_breaks(todo: usize, left: usize, bin: u16, x: u32) -> u8
     ensures { result ≡ breaks (length_clauses todo left bin x) }
 {
-    if among(1, 32768, x) {
+    if length_in_range(x) {
         if multiple(bin, x) {
             if tiles_ok(todo, left, x) { 0 } else { 3 }
         } else {

@@ -1,12 +1,13 @@
 // The task block (table 2-4): 256 bytes, every one of them in a field. INT, SHORT and FLOAT fields are carried as their bits.
 #![tactic(auto)]
 
-ghost use Rattle.std.specs.Prelude.{◌≡◌, ◌+◌, ◌≤◌, length};
-ghost use Rattle.le.specs.Le.{stored, patch};
+ghost use Rattle.std.specs.Prelude.{◌≡◌, ◌+◌, ◌≤◌, length, pos};
+ghost use Rattle.le.specs.Le.{stored, patch, int};
+ghost use Rattle.rules.specs.Ranges.{among};
 ghost use Rattle.task.specs.Task.{task_of, task_at, task_bytes, task_size, task_check};
 
 use rules::check::{Clause, clauses, rule};
-use rules::ranges::{among, not_below_zero};
+use rules::ranges::not_below_zero;
 use rules::states;
 
 #[derive(Clone, Copy)]
@@ -142,12 +143,12 @@ impl Task {
         ensures { result ≡ task_check self }
     {
         rule(
-            among(1, 4, self.polarization),
+            polarization_ok(self.polarization),
             5,
             Self::POLARIZATION as u8,
             4,
         )?;
-        rule(among(0, 6, self.scan_type), 6, Self::SCAN_TYPE as u8, 4)?;
+        rule(scan_type_ok(self.scan_type), 6, Self::SCAN_TYPE as u8, 4)?;
         rule(
             not_below_zero(self.start_time),
             7,
@@ -160,5 +161,26 @@ impl Task {
             Self::CUT_NUMBER as u8,
             4,
         )
+    }
+}
+
+// One function a range: each rule of a field is decided by a match with ranges, and no range of a match is a parameter.
+// Number 5 (table 2-4).
+fn polarization_ok(x: u32) -> bool
+    ensures { result ≡ among (pos 1) (pos 4) (int x) }
+{
+    match x {
+        1..=4 => true,
+        _ => false,
+    }
+}
+
+// Number 6 (table 2-4).
+fn scan_type_ok(x: u32) -> bool
+    ensures { result ≡ among (pos 0) (pos 6) (int x) }
+{
+    match x {
+        0..=6 => true,
+        _ => false,
     }
 }

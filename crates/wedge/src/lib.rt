@@ -20,11 +20,16 @@ pub struct Wedge {
 
 impl Wedge {
     // Number 61: start and end are 0..35,999.
-    #[tactic(auto, unfolding(crate::specs::Wedge::wedge_ok))]
     pub fn ok(self) -> bool
         ensures { result ≡ wedge_ok self }
     {
-        self.start < 36000 && self.end < 36000
+        match self.start {
+            0..=35999 => match self.end {
+                0..=35999 => true,
+                _ => false,
+            },
+            _ => false,
+        }
     }
 
     // Whether the azimuth with these bits lies in it. What is no azimuth lies in no wedge.

@@ -1,10 +1,11 @@
-use mathlib.Core.Path.{◌∙◌}
+use mathlib.Core.Path.{sym, ◌∙◌}
+use borrow.Author.Tests.{lt-ltb, le-ltb}
 use mir.Syntax.{w32}
-use mir.Facts.{to_z-of_z}
-use borrow.Author.Rules.{sfits_of}
-use Rattle.rules.specs.Ranges.{not_below_zero}
+use Rattle.rules.proofs.Numbers.{zero-by-bits}
 use Rattle.rules.proofs.ranges.not_below_zero.Goals as goal
 
-pub returns : goal.returns
-unfolding not_below_zero
-returns c = rw (to_z-of_z {w = w32} (sfits_of c.cast_signed.type_inv) ∙ c.cast_signed.ensures)
+pub returns-in-0-to-2147483647 : goal.returns-in-0-to-2147483647
+returns-in-0-to-2147483647 c = let x = c.args.x in sym (zero-by-bits w32 x ∙ lt-ltb x 2147483648 c.in-0-to-2147483647.if-x-lt2147483648-own.true)
+
+pub returns-in_default : goal.returns-in_default
+returns-in_default c = let x = c.args.x in sym (zero-by-bits w32 x ∙ le-ltb x 2147483648 c.in_default.if-x-lt2147483648-own.false)
