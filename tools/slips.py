@@ -37,7 +37,7 @@ MENDED, LAY, REPORT = 'crates/mend/specs/Mend.antt', 'crates/mend/src/lay.rt', '
 KEEPING, PIECES, CLOSED, VIEW, MEND_BYTES, PAIRED, WHOLE, REPORTS, GROWING, KEPT_OF, LAST_STATE, LAID = (
     f'crates/mend/proofs/{path}.antt' for path in ('Keeping', 'Pieces', 'Closed', 'View', 'Bytes', 'Paired', 'Whole', 'Reports', 'Growing',
                                                    'keep/kept_of/Answers', 'lay/last_state/Answers', 'lay/lay/Answers'))
-NEWEST_IF = '\n    ∙ ap (λ (b : Bool). cond b (There s) a.before) '
+NEWEST_IF = '\n    ∙ ap (λ (b : Bool). cond b (Some s) a.before) '
 KEPT_IF = ' ∙ ap (λ (x : Bool). cond x (ss ++ (l ∷ [])) ss) '
 KEPT_CUT, OWN_CUTS = 'behind_cut s.cut', 'behind_cut (cut_number f)'
 PICKED, WANTED = 'crates/pick/specs/Pick.antt', 'crates/pick/specs/Keep.antt'
@@ -47,64 +47,64 @@ WANTING, LAYING, TURNS, PLANNING, PLANS, EMPTY, PICK_BYTES, PICK_AGAIN, PICK_FIR
                                                    'lay/lay_cut/Answers'))
 OWN_MASK, MASK_THERE, MASK = 'bit_and (le 8 b 84) wanted', 'bit_and (le 8 f (at + 84)) wanted', 'bit_and m wanted'
 OR_ELSE = '''-- what was found, or else something
-unfoldable pub or_else : Found → Found → Found
-or_else Nowhere other = other
-or_else (There s) other = There s
+unfoldable pub or_else : Option Stretch → Option Stretch → Option Stretch
+or_else None other = other
+or_else (Some s) other = Some s
 
 '''
-THIS_EMPTY, FIRST_EMPTY = (f'cond (empties wanted (bytes_of f s)) (There s) {rest}' for rest in ('Nowhere', '(first_empty wanted f ss)'))
-FOUND = 'ap (λ (x : Found). or_else x (cond (eqb a.moments 0) (There a.s) Nowhere)) '
-RETURNS_FOUND = f'''pub returns-in-There : goal.returns-in-There
+THIS_EMPTY, FIRST_EMPTY = (f'cond (empties wanted (bytes_of f s)) (Some s) {rest}' for rest in ('None', '(first_empty wanted f ss)'))
+FOUND = 'ap (λ (x : Option Stretch). or_else x (cond (eqb a.moments 0) (Some a.s) None)) '
+RETURNS_FOUND = f'''pub returns-in-Some : goal.returns-in-Some
 unfolding or_else
-returns-in-There c =
+returns-in-Some c =
     let a = c.args in
-    let e = c.in-There.is in
+    let e = c.in-Some.is in
     e ∙ sym ({FOUND}e)
 
 '''
 NOT_ZERO = '(let z : ◌≡◌ {A = ℕ} 0 1 = cc in omega arith)'
 NONE_HERE, NONE_IN = 'empties (bit_and m w) (bytes_of f i)', 'first_empty (bit_and m w) f ss'
 MEETS_CALL = f'go ({NONE_HERE}) refl e (meets bs s xs ys)'
-MEETS_GO = f'''        go : (t : Bool) → {NONE_HERE} ≡ t → cond t (There i) ({NONE_IN}) ≡ There s → ({NONE_IN} ≡ There s → Meets s ss us) → Meets s (i ∷ ss) (j ∷ us)
+MEETS_GO = f'''        go : (t : Bool) → {NONE_HERE} ≡ t → cond t (Some i) ({NONE_IN}) ≡ Some s → ({NONE_IN} ≡ Some s → Meets s ss us) → Meets s (i ∷ ss) (j ∷ us)
         go true d q rest = let k = empties-twice i j b x y ∙ d in record {{ before = 0; then = j; here = q; there = refl; second = rw k }}
         go false d q rest =
             let k = empties-twice i j b x y ∙ d in
             let r = rest q in
             record {{ before = suc r.before; then = r.then; here = r.here; there = r.there; second = rw k r.second }}
 '''
-MEETS_LAST = f'''        go : (l : Found) → {NONE_IN} ≡ l → (t : Bool) → {NONE_HERE} ≡ t → or_else l (cond t (There i) Nowhere) ≡ There s
-            → ({NONE_IN} ≡ There s → Meets s ss us) → Meets s (i ∷ ss) (j ∷ us)
-        go (There u) l t d q rest =
+MEETS_LAST = f'''        go : (l : Option Stretch) → {NONE_IN} ≡ l → (t : Bool) → {NONE_HERE} ≡ t → or_else l (cond t (Some i) None) ≡ Some s
+            → ({NONE_IN} ≡ Some s → Meets s ss us) → Meets s (i ∷ ss) (j ∷ us)
+        go (Some u) l t d q rest =
             let r = rest (l ∙ q) in
             record {{ before = suc r.before; then = r.then; here = r.here; there = r.there; second = rw r.second }}
-        go Nowhere l true d q rest =
+        go None l true d q rest =
             let k = empties-twice i j b x y ∙ d in
             record {{ before = 0; then = j; here = q; there = refl; second = rw (none_then bs xs ys l, k) }}
-        go Nowhere l false d q rest = absurd {NOT_ZERO}
+        go None l false d q rest = absurd {NOT_ZERO}
 '''
-MEETS_ON = f'''        go : ({NONE_IN} ≡ There s → Meets s ss us) → Meets s (i ∷ ss) (j ∷ us)
+MEETS_ON = f'''        go : ({NONE_IN} ≡ Some s → Meets s ss us) → Meets s (i ∷ ss) (j ∷ us)
         go rest =
             let r = rest e in
             record {{ before = suc r.before; then = r.then; here = r.here; there = r.there; second = r.second }}
 '''
 NONE_THEN = f'''    none_then : {{ss us : List Stretch}} (bs : List VolumeRadial) → Owned f ss bs → Owned g us (map (only_radial m) bs)
-        → {NONE_IN} ≡ Nowhere → first_empty w g us ≡ Nowhere
+        → {NONE_IN} ≡ None → first_empty w g us ≡ None
     unfolding first_empty or_else
     none_then [] none none e = refl
     none_then (b ∷ bs) (more {{s = i}} {{ss = ss}} x xs) (more {{s = j}} {{ss = us}} y ys) e =
         go ({NONE_IN}) refl ({NONE_HERE}) refl (none_then bs xs ys)
       where
-        go : (l : Found) → {NONE_IN} ≡ l → (t : Bool) → {NONE_HERE} ≡ t → ({NONE_IN} ≡ Nowhere → first_empty w g us ≡ Nowhere)
-            → or_else (first_empty w g us) (cond (empties w (bytes_of g j)) (There j) Nowhere) ≡ Nowhere
-        go (There u) l t d rest = absurd (let q = rw l at e in {NOT_ZERO})
-        go Nowhere l true d rest = absurd (let q = rw (l, d) at e in {NOT_ZERO})
-        go Nowhere l false d rest = let k = empties-twice i j b x y ∙ d in rw (rest l, k)
+        go : (l : Option Stretch) → {NONE_IN} ≡ l → (t : Bool) → {NONE_HERE} ≡ t → ({NONE_IN} ≡ None → first_empty w g us ≡ None)
+            → or_else (first_empty w g us) (cond (empties w (bytes_of g j)) (Some j) None) ≡ None
+        go (Some u) l t d rest = absurd (let q = rw l at e in {NOT_ZERO})
+        go None l true d rest = absurd (let q = rw (l, d) at e in {NOT_ZERO})
+        go None l false d rest = let k = empties-twice i j b x y ∙ d in rw (rest l, k)
 
 '''
 EACH_GO = '''  each_of (x ∷ ss) e n h = go (empties wanted (bytes_of f x)) refl e n h (each_of ss)
     where
-      go : (b : Bool) → empties wanted (bytes_of f x) ≡ b → cond b (There x) (first_empty wanted f ss) ≡ radials.Nowhere → (n : ℕ) → (radial_told f (nth (x ∷ ss) n)).number ≡ 0
-          → (first_empty wanted f ss ≡ radials.Nowhere → (m : ℕ) → (radial_told f (nth ss m)).number ≡ 0 → Some ss m) → Some (x ∷ ss) n
+      go : (b : Bool) → empties wanted (bytes_of f x) ≡ b → cond b (Some x) (first_empty wanted f ss) ≡ None → (n : ℕ) → (radial_told f (nth (x ∷ ss) n)).number ≡ 0
+          → (first_empty wanted f ss ≡ None → (m : ℕ) → (radial_told f (nth ss m)).number ≡ 0 → SomeKept ss m) → SomeKept (x ∷ ss) n
       go true d r n k rest = absurd (let z : ◌≡◌ {A = ℕ} 0 1 = cc in omega arith)
       go false d r zero k rest = absurd (omega arith)
       go false d r (suc zero) k rest = some-told x d
@@ -113,26 +113,26 @@ EACH_GO = '''  each_of (x ∷ ss) e n h = go (empties wanted (bytes_of f x)) ref
 '''
 EACH_LAST = '''  each_of (x ∷ ss) e n h = go (first_empty wanted f ss) refl (empties wanted (bytes_of f x)) refl e n h (each_of ss)
     where
-      go : (l : radial.Found) → first_empty wanted f ss ≡ l → (b : Bool) → empties wanted (bytes_of f x) ≡ b → or_else l (cond b (There x) radials.Nowhere) ≡ radials.Nowhere
+      go : (l : Option Stretch) → first_empty wanted f ss ≡ l → (b : Bool) → empties wanted (bytes_of f x) ≡ b → or_else l (cond b (Some x) None) ≡ None
           → (n : ℕ) → (radial_told f (nth (x ∷ ss) n)).number ≡ 0
-          → (first_empty wanted f ss ≡ radials.Nowhere → (m : ℕ) → (radial_told f (nth ss m)).number ≡ 0 → Some ss m) → Some (x ∷ ss) n
-      go (There u) l b d r n k rest = absurd (let z : ◌≡◌ {A = ℕ} 0 1 = cc in omega arith)
-      go radials.Nowhere l true d r n k rest = absurd (let z : ◌≡◌ {A = ℕ} 0 1 = cc in omega arith)
-      go radials.Nowhere l false d r zero k rest = absurd (omega arith)
-      go radials.Nowhere l false d r (suc zero) k rest = some-told x d
-      go radials.Nowhere l false d r (suc (suc m)) k rest = rest l (suc m) k
+          → (first_empty wanted f ss ≡ None → (m : ℕ) → (radial_told f (nth ss m)).number ≡ 0 → SomeKept ss m) → SomeKept (x ∷ ss) n
+      go (Some u) l b d r n k rest = absurd (let z : ◌≡◌ {A = ℕ} 0 1 = cc in omega arith)
+      go None l true d r n k rest = absurd (let z : ◌≡◌ {A = ℕ} 0 1 = cc in omega arith)
+      go None l false d r zero k rest = absurd (omega arith)
+      go None l false d r (suc zero) k rest = some-told x d
+      go None l false d r (suc (suc m)) k rest = rest l (suc m) k
 
 '''
 FIRST_GO = '''  first_of (x ∷ ss) s e = go (empties wanted (bytes_of f x)) refl e (first_of ss s)
     where
-      go : (b : Bool) → empties wanted (bytes_of f x) ≡ b → cond b (There x) (first_empty wanted f ss) ≡ There s
-          → (first_empty wanted f ss ≡ There s → FirstOf ss s) → FirstOf (x ∷ ss) s
-      go true d r rest = let q : x ≡ s = cc in record { before = 0; is = ap There q; empty = ap (λ (y : Stretch). empties wanted (bytes_of f y)) (sym q) ∙ d; others = λ k low high. absurd (omega arith) }
+      go : (b : Bool) → empties wanted (bytes_of f x) ≡ b → cond b (Some x) (first_empty wanted f ss) ≡ Some s
+          → (first_empty wanted f ss ≡ Some s → FirstOf ss s) → FirstOf (x ∷ ss) s
+      go true d r rest = let q : x ≡ s = cc in record { before = 0; is = ap Some q; empty = ap (λ (y : Stretch). empties wanted (bytes_of f y)) (sym q) ∙ d; others = λ k low high. absurd (omega arith) }
       go false d r rest =
           let n = rest r in
           record { before = suc n.before; is = n.is; empty = n.empty; others = later n.before d n.others }
         where
-          later : (m : ℕ) → empties wanted (bytes_of f x) ≡ false → ((k : ℕ) → 1 ≤ k → k ≤ m → Some ss k) → (k : ℕ) → 1 ≤ k → k ≤ suc m → Some (x ∷ ss) k
+          later : (m : ℕ) → empties wanted (bytes_of f x) ≡ false → ((k : ℕ) → 1 ≤ k → k ≤ m → SomeKept ss k) → (k : ℕ) → 1 ≤ k → k ≤ suc m → SomeKept (x ∷ ss) k
           later m d o zero low high = absurd (omega arith)
           later m d o (suc zero) low high = some-told x d
           later m d o (suc (suc k)) low high = o (suc k) (omega arith) (omega arith)
@@ -140,15 +140,15 @@ FIRST_GO = '''  first_of (x ∷ ss) s e = go (empties wanted (bytes_of f x)) ref
 '''
 FIRST_NEVER = '''  first_of (x ∷ ss) s e = absurd (never ss e)
     where
-      never : (us : List Stretch) → first_empty wanted f us ≡ There s → ⊥
+      never : (us : List Stretch) → first_empty wanted f us ≡ Some s → ⊥
       never [] q = (let z : ◌≡◌ {A = ℕ} 0 1 = cc in omega arith)
       never (u ∷ us) q = never us q
 
 '''
-OR_NONE = '''  or-none : (x : Found) → or_else x Nowhere ≡ x
+OR_NONE = '''  or-none : (x : Option Stretch) → or_else x None ≡ x
   unfolding or_else
-  or-none Nowhere = refl
-  or-none (There s) = refl
+  or-none None = refl
+  or-none (Some s) = refl
 
 '''
 
@@ -177,7 +177,7 @@ below : (f : List ℕ) (w : Where) (i : ℕ) → kind_shown (gate_told f w i) < 
 unfolding gate_told kind_shown
 below f NoRadial i = lit< tt
 below f NoMoment i = lit< tt
-below f (At s p) i = below_in _ _ i
+below f (Some s p) i = below_in _ _ i
 '''
 RADIALS_NEW = '''-- the new form
 pub returns-then-cuts-eq0 : goal.returns-then-cuts-eq0
@@ -239,8 +239,8 @@ returns-then-sequence-eq0 c =
     let e : radials_at a.index.now + 4 ≡ radials_at a.index.now + 4 + 8 * (a.sequence - 1) = omega arith in
     rw (le-leb a.sequence (le 4 a.index.now (radials_at a.index.now)) (omega arith), ← e, c.u64_at.ensures, c.radials_at-at.ensures.0)
 '''
-ZERO_NOWHERE = '    if sequence == 0 {\n        return Place::Nowhere;\n    }\n'
-ZERO_FIRST = '    if sequence == 0 {\n        return Place::At(le::u64_at(index, at + 4) as usize);\n    }\n'
+ZERO_NOWHERE = '    if sequence == 0 {\n        return None;\n    }\n'
+ZERO_FIRST = '    if sequence == 0 {\n        return Some(le::u64_at(index, at + 4) as usize);\n    }\n'
 
 
 def swapped(path, one, other):
@@ -268,8 +268,7 @@ SLIPS = {
     'sequence_from_the_cut': [
         ('crates/walk/specs/After.antt', 'whole = cond more w.count.whole w.present.sequence;',
          'whole = cond more w.count.whole (cond (closes && later) 0 w.present.sequence);'),
-        ('crates/walk/src/after.rt', '            count.cut = count.cut + 1;\n',
-         '            count.whole = 0;\n            count.cut = count.cut + 1;\n'),
+        ('crates/walk/src/after.rt', 'cut: w.count.cut + 1,\n                whole,', 'cut: w.count.cut + 1,\n                whole: 0,'),
     ],
     # classes of types 13 and 14 (document 02, #101)
     'other_types': [
@@ -348,11 +347,7 @@ SLIPS = {
     # the sequence up to 65,535 (number 12; document 02, #106)
     'sequence_to_65535': [
         ('crates/rules/specs/Ranges.antt', 'most_sequence = 65536', 'most_sequence = 65535'),
-        ('crates/radial/src/lib.rt', '1..=65536 =>', '1..=65535 =>'),
-        ('crates/radial/src/lib.rt', '65537..=', '65536..='),
-        ('crates/radial/proofs/sequence_breaks/Answers.antt', '1-to-65536', '1-to-65535'),
-        ('crates/radial/proofs/sequence_breaks/Answers.antt', '65537-to', '65536-to'),
-        ('crates/radial/proofs/sequence_breaks/Answers.antt', 'lt65537', 'lt65536'),
+        ('crates/radial/src/lib.rt', 'count_breaks(65536,', 'count_breaks(65535,'),
     ],
     # an index of 51 cuts in the old form (document 02, #106)
     'old_form_to_51': [
@@ -388,7 +383,9 @@ SLIPS = {
     ],
     # an end of 36,000 let in (number 61; document 02, #114)
     'wedge_to_36000': [
-        ('crates/wedge/src/lib.rt', 'self.start < 36000 && self.end < 36000', 'self.start < 36001 && self.end < 36001'),
+        ('crates/wedge/src/lib.rt', '0..=35999 =>', '0..=36000 =>'),
+        ('crates/wedge/proofs/Wedge/ok/Answers.antt', '36000', '36001'),
+        ('crates/wedge/proofs/Wedge/ok/Answers.antt', '0-to-35999', '0-to-36000'),
         ('crates/wedge/specs/Wedge.antt', 'ltb w.start circle && ltb w.end circle', 'ltb w.start 36001 && ltb w.end 36001'),
     ],
     # a wedge of elevations (document 02, #114)
@@ -558,12 +555,12 @@ SLIPS = {
     # 86,400 seconds for each day, day 1 among them (document 02, #102)
     'days_from_zero': [
         ('crates/old/specs/Clock.antt', '86400 * (day - 1) +', '86400 * day +'),
-        ('crates/old/src/clock.rt', '86400 * (day as u64 - 1) +', '86400 * (day as u64) +'),
+        ('crates/old/src/clock.rt', '(day as u64).saturating_sub(1)', '(day as u64)'),
     ],
     # a last radial kept although it is alone in its cut (document 02, #107)
     'lone_radial_kept': [
         ('crates/mend/specs/Kept.antt', 'cond (eqb s.cut before) (s ∷ []) []', 's ∷ []'),
-        ('crates/mend/specs/Kept.antt', 'cond (eqb s.cut (cut_of before)) (There s) before', 'There s'),
+        ('crates/mend/specs/Kept.antt', 'cond (eqb s.cut (cut_of before)) (Some s) before', 'Some s'),
         ('crates/mend/src/keep.rt', 'return newest;\n    }\n    before', 'return newest;\n    }\n    newest'),
         (KEPT_OF, f'{NEWEST_IF}(eq-eqb s.cut (cut_of a.before) (c.if-s-cut_of.true ∙ c.cut_of.ensures))', ''),
         (KEPT_OF, f'{NEWEST_IF}(ne_eqb s.cut (cut_of a.before) (λ e. c.if-s-cut_of.false (e ∙ sym c.cut_of.ensures)))', ''),
@@ -683,28 +680,28 @@ SLIPS = {
         (PICKED, OR_ELSE, ''),
         (PICKED, '-- the first of some radials', OR_ELSE + '-- the first of some radials'),
         (PICKED, FIRST_EMPTY, f'or_else (first_empty wanted f ss) ({THIS_EMPTY})'),
-        (PICK_PLAN, 'or_else found (cond (eqb moments 0) (There s) Nowhere)', 'cond (eqb moments 0) (There s) found'),
-        (PICK_PLAN, '    match found {\n        Found::There(_) => found,\n        Found::Nowhere => {\n', '    {\n        {\n'),
+        (PICK_PLAN, 'or_else found (cond (eqb moments 0) (Some s) None)', 'cond (eqb moments 0) (Some s) found'),
+        (PICK_PLAN, '    match found {\n        Some(_) => found,\n        None => {\n', '    {\n        {\n'),
         (EMPTY, RETURNS_FOUND, ''),
-        (EMPTY, f'sym ({FOUND}c.in-Nowhere.is\n    ∙ ', 'sym ('),
-        (EMPTY, f'    let e = c.in-Nowhere.is in\n    e\n    ∙ sym ({FOUND}e\n    ∙ ', '    sym ('),
-        (EMPTY, '(There a.s) Nowhere', '(There a.s) a.found'),
+        (EMPTY, f'sym ({FOUND}c.in-None.is\n    ∙ ', 'sym ('),
+        (EMPTY, f'    let e = c.in-None.is in\n    e\n    ∙ sym ({FOUND}e\n    ∙ ', '    sym ('),
+        (EMPTY, '(Some a.s) None', '(Some a.s) a.found'),
         (EMPTY, 'returns-else-moments-eq0', 'returns'),
         (PLANNING, 'or_else empty (first_empty wanted f (trace (fuel f) f w))', 'or_else (first_empty wanted f (trace (fuel f) f w)) empty'),
         (PLANNING, 'or_else empty (first_empty wanted f (s ∷ ss))', 'or_else (first_empty wanted f (s ∷ ss)) empty'),
         (PLANNING, '  pub planned-none', OR_NONE + '  pub planned-none'),
         (PLANNING, 'first = refl })', 'first = or-none _ })'),
-        (PLANNING, 'or_else (or_else empty (cond b (There s) Nowhere)) rest ≡ or_else empty (cond b (There s) rest)',
-         'or_else rest (cond b (There s) empty) ≡ or_else (or_else rest (cond b (There s) Nowhere)) empty'),
-        (PLANNING, 'Nowhere s rest = refl', 'empty s Nowhere = refl'),
-        (PLANNING, '(There u) s rest = refl', 'empty s (There u) = refl'),
-        (PLANNING, f'(or_else empty ({THIS_EMPTY}))', '(cond (empties wanted (bytes_of f s)) (There s) empty)'),
-        (PLANNING, 'or_else empty Nowhere', 'or_else Nowhere empty'),
+        (PLANNING, 'or_else (or_else empty (cond b (Some s) None)) rest ≡ or_else empty (cond b (Some s) rest)',
+         'or_else rest (cond b (Some s) empty) ≡ or_else (or_else rest (cond b (Some s) None)) empty'),
+        (PLANNING, 'None s rest = refl', 'empty s None = refl'),
+        (PLANNING, '(Some u) s rest = refl', 'empty s (Some u) = refl'),
+        (PLANNING, f'(or_else empty ({THIS_EMPTY}))', '(cond (empties wanted (bytes_of f s)) (Some s) empty)'),
+        (PLANNING, 'or_else empty None', 'or_else None empty'),
         (PLANNING, 'sym (none empty) ∙ first', 'first'),
-        (PICK_BYTES, '(cond t (There s) x ≡ Nowhere) ↔ ((X → ⊥) × Y)\n', '(or_else x (cond t (There s) Nowhere) ≡ Nowhere) ↔ ((X → ⊥) × Y)\nunfolding or_else\n'),
+        (PICK_BYTES, '(cond t (Some s) x ≡ None) ↔ ((X → ⊥) × Y)\n', '(or_else x (cond t (Some s) None) ≡ None) ↔ ((X → ⊥) × Y)\nunfolding or_else\n'),
         (PICK_BYTES, 'neither true s x i r',
-         f'neither t s (There u) i r = (λ e. absurd {NOT_ZERO}, λ y. absurd (let q = r.1 y.1 in {NOT_ZERO}))\nneither true s Nowhere i r'),
-        (PICK_BYTES, 'neither false s x i r', 'neither false s Nowhere i r'),
+         f'neither t s (Some u) i r = (λ e. absurd {NOT_ZERO}, λ y. absurd (let q = r.1 y.1 in {NOT_ZERO}))\nneither true s None i r'),
+        (PICK_BYTES, 'neither false s x i r', 'neither false s None i r'),
         (PICK_BYTES, 'first_empty, picked', 'first_empty, or_else, picked'),
         (PICK_AGAIN, 'first_empty, picked', 'first_empty, or_else, picked'),
         (PICK_AGAIN, '    -- so it is where s is the first', NONE_THEN + '    -- so it is where s is the first'),
@@ -712,12 +709,12 @@ SLIPS = {
         (PICK_AGAIN, MEETS_CALL, f'go ({NONE_IN}) refl ({NONE_HERE}) refl e (meets bs s xs ys)'),
         (PICK_AGAIN, MEETS_GO, MEETS_LAST),
         (PICK_FIRST, EACH_GO, EACH_LAST),
-        (PICK_FIRST, '  unfolding first_empty nth Some radial_told\n', '  unfolding first_empty nth Some radial_told or_else\n'),
+        (PICK_FIRST, '  unfolding first_empty nth SomeKept radial_told\n', '  unfolding first_empty nth SomeKept radial_told or_else\n'),
         (PICK_FIRST, 'empty_in, first_empty}', 'empty_in, first_empty, or_else}'),
     ],
     # 60 told at the end of the radial (document 02, #111)
     'sixty_at_the_end': [
-        (PICKED, '(There s) = refused 60 s.start', '(There s) = refused 60 s.end'),
+        (PICKED, '(Some s) = refused 60 s.start', '(Some s) = refused 60 s.end'),
         (PICKED, 'Empty s.start', 'Empty s.end'),
         (PICK_PLAN, 'Plan::Empty(s.start)', 'Plan::Empty(s.end)'),
         (PLANS, '(Empty s.start)', '(Empty s.end)'),
@@ -726,11 +723,11 @@ SLIPS = {
     # a radial that would have no moment left let through (document 02, #111)
     'none_left_let_through': [
         (PICKED, FIRST_EMPTY, 'first_empty wanted f ss'),
-        (PICK_PLAN, '(There s) Nowhere', 'Nowhere Nowhere'),
-        (PICK_PLAN, 'return Found::There(s);', 'return Found::Nowhere;'),
-        (EMPTY, '(There a.s) Nowhere', 'Nowhere Nowhere'),
-        (PLANNING, '(There s) Nowhere', 'Nowhere Nowhere'),
-        (PLANNING, 'or_else empty (cond b (There s) rest)', 'or_else empty rest'),
+        (PICK_PLAN, '(Some s) None', 'None None'),
+        (PICK_PLAN, 'return Some(s);', 'return None;'),
+        (EMPTY, '(Some a.s) None', 'None None'),
+        (PLANNING, '(Some s) None', 'None None'),
+        (PLANNING, 'or_else empty (cond b (Some s) rest)', 'or_else empty rest'),
         (PICK_AGAIN, MEETS_CALL, 'go (meets bs s xs ys)'),
         (PICK_AGAIN, MEETS_GO, MEETS_ON),
         ('crates/pick/proofs/Growing.antt', 'rw h.0 (go (empties wanted (bytes_of A x)) (first-same ss later s h.1) e)',
@@ -758,7 +755,7 @@ SLIPS = {
     'next_place': [
         (FORMS, '8 * (n - 1)', '8 * n'),
         (SAID, '8 * (sequence - 1)', '8 * sequence'),
-        (SAYS, 'cond (leb 1 n && leb n m) (At (le 8 x (at + 8 * (n - 1))))', 'cond (leb 1 n && leb n m) (At (le 8 x (at + 8 * n)))'),
+        (SAYS, 'cond (leb 1 n && leb n m) (Some (le 8 x (at + 8 * (n - 1))))', 'cond (leb 1 n && leb n m) (Some (le 8 x (at + 8 * n)))'),
         (SAYS, 'rw (le-leb 1 (suc m) (omega arith), add-zero at)', 'rw (le-leb 1 (suc m) (omega arith))'),
         (SAYS, 'at + 8 * (suc (suc n) - 1) ≡ at + 8 + 8 * (suc n - 1)', 'at + 8 * suc (suc n) ≡ at + 8 + 8 * suc n'),
     ],
@@ -779,7 +776,7 @@ SLIPS = {
     'radial_zero': [
         (FORMS, 'cond (leb 1 n && leb n (le 4 x (radials_at x)))', 'cond (leb n (le 4 x (radials_at x)))'),
         (SAID, ZERO_NOWHERE, ''),
-        (SAID, '    Place::At(le::u64_at(index, at + 4 + 8', ZERO_FIRST + '    Place::At(le::u64_at(index, at + 4 + 8'),
+        (SAID, '    Some(le::u64_at(index, at + 4 + 8', ZERO_FIRST + '    Some(le::u64_at(index, at + 4 + 8'),
         (FIND, 'u64_at', 'u64_at-2'),
         (FIND, FIND_NONE, FIND_FIRST),
         (FIND, ', le-leb 1 a.sequence (omega arith)', ''),
