@@ -21,6 +21,7 @@ fn next(out: &impl Print, room: &mut [u8], number: u64, kept: u32, own: &[u8]) -
 fn each(out: &impl Print, files: &[u8], room: &mut [u8]) -> io::Result<()> {
     let mut rest = files;
     let mut number = 0;
+    // By hand: a file says how long it is, so no chunks of one length part the input.
     while !rest.is_empty() {
         let kept = le::u32_at(rest, 0);
         let n = le::u32_at(rest, 4) as usize;

@@ -171,6 +171,7 @@ fn print_run(out: &impl Print, file: &[u8], first: usize, last: usize) -> io::Re
 
 // Every prefix of a volume, by runs of lengths at which the same is read and each byte more wants one less.
 fn prefixes(out: &impl Print, file: &[u8]) -> io::Result<()> {
+    // By hand: a run says where it ends, so the next step is no count.
     let mut first = 0;
     while first <= file.len() {
         let last = run_end(file, first);

@@ -34,6 +34,7 @@ fn print_pick<'a>(
     Ok(first(room, size))
 }
 
+// The number is used where it is read, so an enum of outputs would be a second match.
 // Output 1 is for the command line. Output 2 then picks what was written by the other mask: nothing, where the first pick is refused.
 fn pick_asked(
     out: &impl Print,
