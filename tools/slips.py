@@ -199,7 +199,7 @@ RADIALS_OLD_ALONE = '''pub returns : goal.returns
 unfolding radials_at
 returns c = (rw (← c.old_cuts-cuts.ensures), omega arith)
 '''
-INDEX_FIRST = '    if !index::right(file, index) {\n        return ListAnswer::Refused(59);\n    }\n'
+INDEX_FIRST = '    if !index::right(file, index) {\n        return Err(Refusal::WrongIndex);\n    }\n'
 NEITHER = '''  neither : (b : Bool) → (b && false) ≡ false
   neither true = refl
   neither false = refl
@@ -457,7 +457,7 @@ SLIPS = {
     # 31 for a radial that is not there (document 02, #112)
     'thirty_one_for_thirty': [
         ('crates/decoded/specs/Decoded.antt', 'check_told f NoRadial k h = refused 30 0', 'check_told f NoRadial k h = refused 31 0'),
-        ('crates/decoded/src/lib.rt', 'Where::NoRadial => CheckAnswer::Refused(30)', 'Where::NoRadial => CheckAnswer::Refused(31)'),
+        ('crates/decoded/src/lib.rt', 'Where::NoRadial => Err(Refusal::NoRadial)', 'Where::NoRadial => Err(Refusal::NoMoment)'),
     ],
     # the two clauses of number 23 told for each other (document 02, #104)
     'clauses_of_23': [
@@ -737,7 +737,7 @@ SLIPS = {
     # a refused question shown as "unknown" (document 02, #109)
     'refused_as_unknown': [
         (ENGINE, 'kind_shown (refused number place) = number', 'kind_shown (refused number place) = 3'),
-        (ENGINE_CODE, 'GateAnswer::Refused(number) => (number % 256) as u8', 'GateAnswer::Refused(_) => 3'),
+        (ENGINE_CODE, 'Err(refusal) => (refusal.number() % 256) as u8', 'Err(_) => 3'),
         (FILLING, BELOW, BELOW_BY_ITSELF),
         (FILLING, 'below (stands-asked f n t i)', 'below f (where_is f n t) i'),
     ],
@@ -745,8 +745,8 @@ SLIPS = {
     'hundredths_of_refusal': [
         (ENGINE, 'hundredths_shown (refused number place) = pos 0', 'hundredths_shown (refused number place) = pos (number % 256)'),
         (ENGINE, '{ℕ, Bool', '{ℕ, ◌%◌, Bool'),
-        (ENGINE_CODE, 'GateAnswer::Refused(_) => 0', 'GateAnswer::Refused(number) => (number % 256) as i32'),
-        (HUNDREDTHS, 'rw c.in-Refused.is', 'rw c.in-Refused.is (to_z_pos w32 (omega arith))'),
+        (ENGINE_CODE, 'Err(_) => 0', 'Err(refusal) => (refusal.number() % 256) as i32'),
+        (HUNDREDTHS, 'rw c.in-Err.is', 'rw (c.in-Err.is, c.number.ensures) (to_z_pos w32 (omega arith))'),
         (HUNDREDTHS, 'use mir.Facts.{to_z-of_z}', 'use native.Mathlib.Omega.{arith}\nuse mir.Facts.{to_z-of_z, to_z_pos}'),
         (FILLING, BELOW, BELOW_BY_ITSELF),
         (FILLING, 'below (stands-asked f n t i)', 'below f (where_is f n t) i'),

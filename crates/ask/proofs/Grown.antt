@@ -6,8 +6,8 @@ use mathlib.Core.Logic.{◌⊎◌, inl, inr}
 use mathlib.Core.Path.{◌≡◌, refl, sym, ap, transport, ◌∙◌}
 use lib.IntN.{ℤ}
 use lib.ListN.{length}
-use Rattle.std.specs.Prelude.{Option, Some, None}
-use Rattle.gates.specs.declared.RowAnswer.{RowAnswer}
+use Rattle.std.specs.Prelude.{Option, Some, None, Result}
+use Rattle.refusal.specs.declared.Refusal.{Refusal}
 use Rattle.gates.specs.Telling.{refused}
 use Rattle.le.proofs.Laws.{part_in}
 use Rattle.radial.specs.Radial.{radial_of, radial_at}
@@ -72,12 +72,12 @@ module _ (A C : List ℕ) (some : 0 < length C) where
     gate_same (Some p) i = rw same
     gate_same None i = refl
 
-    row_same : (v : Option ℕ) (k k' : List ℕ) (h h' : List ℤ) (r : RowAnswer) → RowTold (A ++ C) (in_stretch s v) k h r k' h' ≡ RowTold A (in_stretch s v) k h r k' h'
+    row_same : (v : Option ℕ) (k k' : List ℕ) (h h' : List ℤ) (r : Result ℕ Refusal) → RowTold (A ++ C) (in_stretch s v) k h r k' h' ≡ RowTold A (in_stretch s v) k h r k' h'
     unfolding in_stretch RowTold
     row_same (Some p) k k' h h' r = rw same
     row_same None k k' h h' r = refl
 
-    row_kept : (t : ℕ) (k k' : List ℕ) (h h' : List ℤ) (r : RowAnswer) → RowAsked (A ++ C) n t k h r k' h' ≡ RowAsked A n t k h r k' h'
+    row_kept : (t : ℕ) (k k' : List ℕ) (h h' : List ℤ) (r : Result ℕ Refusal) → RowAsked (A ++ C) n t k h r k' h' ≡ RowAsked A n t k h r k' h'
     row_kept t k k' h h' r =
         ap (λ (w : Where). RowTold (A ++ C) w k h r k' h') (place_kept t ∙ placed t)
         ∙ row_same _ k k' h h' r

@@ -8,3 +8,4 @@ pub mod Shown
 pub mod Sounding
 pub mod Tallying
 pub mod Tellings
+pub mod Found

@@ -6,8 +6,9 @@ use mathlib.Core.Path.{◌≡◌, refl, sym, ◌∙◌}
 use borrow.Author.Tests.{lt-ltb, le-ltb}
 use lib.IntN.{ℤ}
 use lib.ListN.{length, get_or}
+use Rattle.std.specs.Prelude.{Result}
+use Rattle.refusal.specs.declared.Refusal.{Refusal}
 use Rattle.moment.specs.Moment.{moment_at}
-use Rattle.gates.specs.declared.RowAnswer.{RowAnswer}
 use Rattle.gates.specs.Codes.{codes_of}
 use Rattle.gates.specs.Gates.{told_of, values_of}
 use Rattle.gates.specs.Rows.{told_row}
@@ -22,10 +23,10 @@ use Rattle.ask.specs.Places.{where_is}
 use Rattle.ask.specs.Shown.{Shown}
 
 -- a row that was refused did not answer
-pub not-filled : (r : RowAnswer) (m number : ℕ) → told_row r ≡ answered m → told_row r ≡ refused number 0 → ⊥
+pub not-filled : (r : Result ℕ Refusal) (m number : ℕ) → told_row r ≡ answered m → told_row r ≡ refused number 0 → ⊥
 not-filled r m number a b = let e : answered m ≡ refused number 0 = sym a ∙ b in let z : ◌≡◌ {A = ℕ} 0 1 = cc in omega arith
 
-module _ (f : List ℕ) (n t m : ℕ) (k k' : List ℕ) (h h' : List ℤ) (r : RowAnswer) (e : told_row r ≡ answered m) where
+module _ (f : List ℕ) (n t m : ℕ) (k k' : List ℕ) (h h' : List ℤ) (r : Result ℕ Refusal) (e : told_row r ≡ answered m) where
   pub row-shown : RowTold f (where_is f n t) k h r k' h' → Shown f n t m k' h'
   unfolding RowTold gate_told gate_in told_of
   row-shown x = go (where_is f n t) refl x

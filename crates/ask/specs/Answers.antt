@@ -1,12 +1,14 @@
 -- What is answered of a radial, a moment, a gate and a row (document 01, "What reading tells"): 30 where there is no such
 -- whole radial, then 31 where it has no such moment, then 32 or 33.
-use Rattle.std.specs.Prelude.{ℕ, ◌%◌, cond, List, [], ◌≡◌, eqb, ltb, ℤ, length, get_or, Option, Some, None}
+use Rattle.std.specs.Prelude.{ℕ, ◌%◌, cond, List, [], ◌≡◌, eqb, ltb, ℤ, length, get_or, Option, Some, None, Result, Ok, Err}
+use Rattle.refusal.specs.declared.Refusal.{Refusal}
+use Rattle.refusal.specs.Refusal.{number_of}
+use Rattle.gates.specs.declared.Told.{Told}
 use Rattle.reading.specs.declared.Stretch.{Stretch}
 use Rattle.moment.specs.declared.Moment.{Moment}
 use Rattle.moment.specs.Moment.{moment_at}
 use Rattle.radial.specs.Radial.{radial_at}
 use Rattle.gates.specs.declared.Coding.{Coding}
-use Rattle.gates.specs.declared.RowAnswer.{RowAnswer}
 use Rattle.gates.specs.Codes.{codes_of}
 use Rattle.gates.specs.Gates.{told_of, Values, values_of}
 use Rattle.gates.specs.Rows.{told_row, Rowed}
@@ -15,8 +17,6 @@ use Rattle.moments.specs.Moments.{data_at}
 use Rattle.reading.specs.Reading.{stretches, nth, bytes_of}
 use Rattle.ask.specs.declared.answers.RadialAnswer.{RadialAnswer}
 use Rattle.ask.specs.declared.answers.MomentAnswer.{MomentAnswer}
-use Rattle.ask.specs.declared.answers.GateAnswer.{GateAnswer}
-use Rattle.ask.specs.declared.answers.GateAnswer.TheVariants.{Answered, Refused}
 use Rattle.ask.specs.declared.places.Where.{Where}
 use Rattle.ask.specs.declared.places.Where.TheVariants.{At, NoRadial, NoMoment}
 
@@ -50,9 +50,9 @@ abbrev pub coding_of : Moment → Coding
 coding_of h = record { data_type = h.data_type; scale = h.scale % 65536; offset = h.offset % 65536 }
 
 -- a gate's answer: its values; or the refusal's number, and place 0
-abbrev pub told_gate_answer : GateAnswer → Telling Values
-told_gate_answer (Answered t) = answered (values_of t)
-told_gate_answer (Refused number) = refused number 0
+abbrev pub told_gate_answer : Result Told Refusal → Telling Values
+told_gate_answer (Ok t) = answered (values_of t)
+told_gate_answer (Err e) = refused (number_of e) 0
 
 -- a gate of a moment, from 0
 unfoldable pub gate_in : Moment → List ℕ → ℕ → Telling Values
@@ -67,12 +67,12 @@ gate_told f NoMoment i = refused 31 0
 gate_told f (At s p) i = gate_in (moment_at (bytes_of f s) p) (data_at (bytes_of f s) p) i
 
 -- a row: refused, both buffers are as they were
-pub record Unfilled (n : ℕ) (k : List ℕ) (h : List ℤ) (r : RowAnswer) (k' : List ℕ) (h' : List ℤ) : Type 0 where
+pub record Unfilled (n : ℕ) (k : List ℕ) (h : List ℤ) (r : Result ℕ Refusal) (k' : List ℕ) (h' : List ℤ) : Type 0 where
   pub answer : told_row r ≡ refused n 0
   pub kinds : k' ≡ k
   pub hundredths : h' ≡ h
 
-unfoldable pub RowTold : List ℕ → Where → List ℕ → List ℤ → RowAnswer → List ℕ → List ℤ → Type 0
+unfoldable pub RowTold : List ℕ → Where → List ℕ → List ℤ → Result ℕ Refusal → List ℕ → List ℤ → Type 0
 RowTold f NoRadial k h r k' h' = Unfilled 30 k h r k' h'
 RowTold f NoMoment k h r k' h' = Unfilled 31 k h r k' h'
 RowTold f (At s p) k h r k' h' =

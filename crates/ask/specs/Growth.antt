@@ -1,6 +1,6 @@
 -- Growth (demand 3, on answers): what is answered of a file A and of any file A ++ C that begins with A.
-use Rattle.std.specs.Prelude.{ℕ, ◌≤◌, List, ◌++◌, ◌⊎◌, ◌≡◌, ℤ, Some}
-use Rattle.gates.specs.declared.RowAnswer.{RowAnswer}
+use Rattle.std.specs.Prelude.{ℕ, ◌≤◌, List, ◌++◌, ◌⊎◌, ◌≡◌, ℤ, Some, Result}
+use Rattle.refusal.specs.declared.Refusal.{Refusal}
 use Rattle.gates.specs.Gates.{Values}
 use Rattle.gates.specs.Telling.{Telling, refused, answered}
 use Rattle.wedge.specs.declared.Wedge.{Wedge}
@@ -15,7 +15,7 @@ abbrev pub gate_asked : List ℕ → ℕ → ℕ → ℕ → Telling Values
 gate_asked f n t i = gate_told f (where_is f n t) i
 
 -- what a row promises of its answer and of both buffers
-abbrev pub RowAsked : List ℕ → ℕ → ℕ → List ℕ → List ℤ → RowAnswer → List ℕ → List ℤ → Type 0
+abbrev pub RowAsked : List ℕ → ℕ → ℕ → List ℕ → List ℤ → Result ℕ Refusal → List ℕ → List ℤ → Type 0
 RowAsked f n t k h r k' h' = RowTold f (where_is f n t) k h r k' h'
 
 -- the same wedge, and no count of a is above that of b
@@ -38,7 +38,7 @@ pub record Kept (A C : List ℕ) (n : ℕ) : Type 0 where
   pub moment : (t : ℕ) → moment_told (A ++ C) (where_is (A ++ C) n t) ≡ moment_told A (where_is A n t)
   pub bytes : (t : ℕ) → data_told (A ++ C) (where_is (A ++ C) n t) ≡ data_told A (where_is A n t)
   pub gate : (t i : ℕ) → gate_asked (A ++ C) n t i ≡ gate_asked A n t i
-  pub row : (t : ℕ) (k k' : List ℕ) (h h' : List ℤ) (r : RowAnswer)
+  pub row : (t : ℕ) (k k' : List ℕ) (h h' : List ℤ) (r : Result ℕ Refusal)
       → (RowAsked (A ++ C) n t k h r k' h' → RowAsked A n t k h r k' h') × (RowAsked A n t k h r k' h' → RowAsked (A ++ C) n t k h r k' h')
 
 pub record AnswersGrow (A C : List ℕ) : Type 0 where

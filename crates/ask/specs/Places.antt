@@ -1,5 +1,7 @@
 -- Where an asked radial and moment stand (document 01, "What reading tells").
-use Rattle.std.specs.Prelude.{List, ℕ, Option, Some, None}
+use Rattle.std.specs.Prelude.{List, ℕ, Option, Some, None, Result, Ok, Err}
+use Rattle.refusal.specs.declared.Refusal.{Refusal}
+use Rattle.refusal.specs.declared.Refusal.TheVariants as refusal
 use Rattle.reading.specs.declared.Stretch.{Stretch}
 use Rattle.reading.specs.Reading.{stretches, nth, bytes_of}
 use Rattle.moments.specs.Moments.{moments_of, find_in}
@@ -21,3 +23,9 @@ in_found f (Some s) t = moment_in f t s
 -- the moment of type t in the whole radial with a sequence number
 abbrev pub where_is : List ℕ → ℕ → ℕ → Where
 where_is f n t = in_found f (nth (stretches f) n) t
+
+-- the same, as an answer that a question goes on from
+unfoldable pub found_of : Where → Result (Stretch × ℕ) Refusal
+found_of (At s p) = Ok (s, p)
+found_of NoRadial = Err refusal.NoRadial
+found_of NoMoment = Err refusal.NoMoment

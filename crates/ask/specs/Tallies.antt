@@ -1,5 +1,7 @@
 -- The tally of a cut and a type in a wedge (document 01, "What reading tells"; document 02, #114).
-use Rattle.std.specs.Prelude.{ℕ, ◌+◌, Bool, cond, ◌&&◌, List, [], ◌∷◌, map, eqb, leb}
+use Rattle.std.specs.Prelude.{ℕ, ◌+◌, Bool, cond, ◌&&◌, List, [], ◌∷◌, map, eqb, leb, Result, Ok, Err}
+use Rattle.refusal.specs.declared.Refusal.{Refusal}
+use Rattle.refusal.specs.Refusal.{number_of}
 use Rattle.cut.specs.Cut.{cut_size}
 use Rattle.rules.specs.Ranges.{within}
 use Rattle.radial.specs.Radial.{radial_at}
@@ -19,8 +21,6 @@ use Rattle.ask.specs.declared.places.Where.{Where}
 use Rattle.ask.specs.declared.places.Where.TheVariants.{At, NoRadial, NoMoment}
 use Rattle.ask.specs.declared.tallies.Sums.{Sums}
 use Rattle.ask.specs.declared.tallies.Tally.{Tally}
-use Rattle.ask.specs.declared.tallies.TallyAnswer.{TallyAnswer}
-use Rattle.ask.specs.declared.tallies.TallyAnswer.TheVariants.{Counted, Refused}
 use Rattle.ask.specs.Answers.{coding_of}
 use Rattle.ask.specs.Places.{moment_in}
 
@@ -64,9 +64,9 @@ unfoldable pub cut_accepted : Walk → ℕ → Bool
 cut_accepted w cut = within 1 w.plan.cuts cut && leb (cut_place cut + cut_size) w.at
 
 -- a tally's answer: the tally; or the refusal's number, and place 0
-abbrev pub told_tally : TallyAnswer → Telling Tally
-told_tally (Counted t) = answered t
-told_tally (Refused number) = refused number 0
+abbrev pub told_tally : Result Tally Refusal → Telling Tally
+told_tally (Ok t) = answered t
+told_tally (Err e) = refused (number_of e) 0
 
 -- 30 where the cut's block is not accepted, then 31 where no whole radial of the cut in the wedge carries the type
 unfoldable pub tally_told : Bool → Tally → Telling Tally

@@ -5,10 +5,11 @@ ghost use Rattle.ask.specs.Answers.{radial_of_file, moment_told, data_told, codi
 
 use crate::places;
 use crate::places::Where;
-use gates::{Coding, RowAnswer, Told};
+use gates::{Coding, Told};
 use moment::Moment;
 use radial::Radial;
 use reading::Stretch;
+use refusal::Refusal;
 
 // Not a Result, here and below: of a refusal the place and the header are promised too, all zeros (`radial_told`, `moment_told`).
 // 0, or the refusal's number; the radial's place, and its header.
@@ -24,12 +25,6 @@ pub struct RadialAnswer {
 pub struct MomentAnswer {
     pub number: u32,
     pub header: Moment,
-}
-
-#[derive(Clone, Copy)]
-pub enum GateAnswer {
-    Answered(Told),
-    Refused(u32),
 }
 
 // The whole radial with a sequence number, from 1.
@@ -93,41 +88,36 @@ pub fn coding(h: Moment) -> Coding
 }
 
 // A gate of a moment's data.
-pub(crate) fn gate_in(h: Moment, bytes: &[u8], i: usize) -> GateAnswer
+pub(crate) fn gate_in(h: Moment, bytes: &[u8], i: usize) -> Result<Told, Refusal>
     ensures { told_gate_answer result ≡ gate_in h bytes.now i }
 {
     if i < gates::gates_in(bytes, h.bin_length) {
         let code = gates::code_at(bytes, h.bin_length, i);
-        GateAnswer::Answered(gates::tell(coding(h), code))
+        Ok(gates::tell(coding(h), code))
     } else {
-        GateAnswer::Refused(32)
+        Err(Refusal::NoGate)
     }
 }
 
 // A gate of the moment of a type in a radial that was found, from 0. A list of questions is its one caller, so that it is inlined
 // there, without the quotient that a list does not show; `gate` goes the way of the other questions.
-pub fn gate_at(file: &[u8], s: Stretch, t: u32, i: usize) -> GateAnswer
+pub fn gate_at(file: &[u8], s: Stretch, t: u32, i: usize) -> Result<Told, Refusal>
     ensures { told_gate_answer result ≡ gate_told file.now (moment_in file.now t s) i }
 {
     let b = reading::own(file, s);
     match moments::find(b, t) {
         Some(p) => gate_in(Moment::read(b, p), moments::data(b, p), i),
-        None => GateAnswer::Refused(31),
+        None => Err(Refusal::NoMoment),
     }
 }
 
 // A gate of the moment of a type, from 0.
-pub fn gate(file: &[u8], sequence: usize, t: u32, i: usize) -> GateAnswer
+pub fn gate(file: &[u8], sequence: usize, t: u32, i: usize) -> Result<Told, Refusal>
     ensures { told_gate_answer result ≡ gate_told file.now (where_is file.now sequence t) i }
 {
-    match places::find(file, sequence, t) {
-        Where::At(s, p) => {
-            let b = reading::own(file, s);
-            gate_in(Moment::read(b, p), moments::data(b, p), i)
-        }
-        Where::NoRadial => GateAnswer::Refused(30),
-        Where::NoMoment => GateAnswer::Refused(31),
-    }
+    let (s, p) = places::found(file, sequence, t)?;
+    let b = reading::own(file, s);
+    gate_in(Moment::read(b, p), moments::data(b, p), i)
 }
 
 // The kinds and hundredths of all gates of the moment of a type.
@@ -137,22 +127,17 @@ pub fn row(
     t: u32,
     kinds: &mut [u8],
     hundredths: &mut [i32],
-) -> RowAnswer
+) -> Result<usize, Refusal>
     ensures { RowTold file.now (where_is file.now sequence t) kinds.old hundredths.old result kinds.new hundredths.new }
 {
-    match places::find(file, sequence, t) {
-        Where::At(s, p) => {
-            let b = reading::own(file, s);
-            let h = Moment::read(b, p);
-            gates::row(
-                moments::data(b, p),
-                h.bin_length,
-                coding(h),
-                kinds,
-                hundredths,
-            )
-        }
-        Where::NoRadial => RowAnswer::Refused(30),
-        Where::NoMoment => RowAnswer::Refused(31),
-    }
+    let (s, p) = places::found(file, sequence, t)?;
+    let b = reading::own(file, s);
+    let h = Moment::read(b, p);
+    gates::row(
+        moments::data(b, p),
+        h.bin_length,
+        coding(h),
+        kinds,
+        hundredths,
+    )
 }

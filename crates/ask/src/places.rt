@@ -1,9 +1,10 @@
 // Where an asked radial and moment stand.
 ghost use Rattle.std.specs.Prelude.{◌≡◌};
 ghost use Rattle.moments.specs.Moments.{moments_of, find_in};
-ghost use Rattle.ask.specs.Places.{where_is, in_stretch};
+ghost use Rattle.ask.specs.Places.{where_is, in_stretch, found_of};
 
 use reading::Stretch;
+use refusal::Refusal;
 
 #[derive(Clone, Copy)]
 pub enum Where {
@@ -30,5 +31,16 @@ pub fn find(file: &[u8], sequence: usize, t: u32) -> Where
     match reading::find(file, sequence) {
         Some(s) => in_stretch(reading::own(file, s), s, t),
         None => Where::NoRadial,
+    }
+}
+
+// The same as an answer: the radial's stretch and the moment's place in it, or which of them is not there.
+pub(crate) fn found(file: &[u8], sequence: usize, t: u32) -> Result<(Stretch, usize), Refusal>
+    ensures { result ≡ found_of (where_is file.now sequence t) }
+{
+    match find(file, sequence, t) {
+        Where::At(s, p) => Ok((s, p)),
+        Where::NoRadial => Err(Refusal::NoRadial),
+        Where::NoMoment => Err(Refusal::NoMoment),
     }
 }

@@ -13,6 +13,7 @@ use gates::Counts;
 use moment::Moment;
 use radial::Radial;
 use reading::{Onward, Stretch};
+use refusal::Refusal;
 use walk::due::{Walk, cut_place};
 use wedge::Wedge;
 
@@ -29,12 +30,6 @@ pub struct Sums {
 pub struct Tally {
     pub wedge: Wedge,
     pub sums: Sums,
-}
-
-#[derive(Clone, Copy)]
-pub enum TallyAnswer {
-    Counted(Tally),
-    Refused(u32),
 }
 
 fn none() -> Sums
@@ -116,20 +111,20 @@ fn accepted(w: Walk, cut: u32) -> bool
 }
 
 #[tactic(auto, using(std::proofs::lemmas::Bool::Decides::nat_tests), unfolding(crate::specs::Tallies::tally_told))]
-fn told(accepted: bool, t: Tally) -> TallyAnswer
+fn told(accepted: bool, t: Tally) -> Result<Tally, Refusal>
     ensures { told_tally result ≡ tally_told accepted t }
 {
     if !accepted {
-        TallyAnswer::Refused(30)
+        Err(Refusal::NoRadial)
     } else if t.sums.radials == 0 {
-        TallyAnswer::Refused(31)
+        Err(Refusal::NoMoment)
     } else {
-        TallyAnswer::Counted(t)
+        Ok(t)
     }
 }
 
 // One pass over the whole radials.
-fn tally_in(file: &[u8], cut: u32, t: u32, wedge: Wedge) -> TallyAnswer
+fn tally_in(file: &[u8], cut: u32, t: u32, wedge: Wedge) -> Result<Tally, Refusal>
     ensures { told_tally result ≡ tally_told (cut_accepted (stop file.now) cut) (tally_of file.now cut t wedge) }
 {
     let mut w = Walk::begin();
@@ -155,12 +150,12 @@ fn tally_in(file: &[u8], cut: u32, t: u32, wedge: Wedge) -> TallyAnswer
 
 // The tally of a cut and a type in a wedge; from 0 to 0, or between any other two equal ends, of the whole cut.
 #[tactic(auto, unfolding(crate::specs::Tallies::tally_answer))]
-pub fn tally_of(file: &[u8], cut: u32, t: u32, wedge: Wedge) -> TallyAnswer
+pub fn tally_of(file: &[u8], cut: u32, t: u32, wedge: Wedge) -> Result<Tally, Refusal>
     ensures { told_tally result ≡ tally_answer file.now cut t wedge }
 {
     if wedge.ok() {
         tally_in(file, cut, t, wedge)
     } else {
-        TallyAnswer::Refused(61)
+        Err(Refusal::NoWedge)
     }
 }

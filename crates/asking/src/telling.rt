@@ -1,7 +1,6 @@
 // What is printed of a list in one line: how many questions were answered, or the refusal; and the checksums of all of both rooms, so that
 // no entry is stored unseen.
 use crate::rooms::{ListRooms, sum_signed};
-use engine::ListAnswer;
 use printing::sum;
 use std::io;
 
@@ -25,7 +24,7 @@ pub(crate) fn print_answer(
     let kinds = sum(kinds);
     let hundredths = sum_signed(hundredths);
     match answer {
-        ListAnswer::Filled(n) => println!(out; "filled {n} {kinds} {hundredths}"),
-        ListAnswer::Refused(n) => println!(out; "refused {n} 0 {kinds} {hundredths}"),
+        Ok(n) => println!(out; "filled {n} {kinds} {hundredths}"),
+        Err(refusal) => println!(out; "refused {} 0 {kinds} {hundredths}", refusal.number()),
     }
 }

@@ -8,24 +8,25 @@
 
 ghost use Rattle.std.specs.Prelude.{◌≤◌, ◌<◌, ◌*◌, length, IfOk};
 
-use decoded::CheckAnswer;
+use decoded::Compared;
 use printing::{behind, first, read_full};
+use refusal::Refusal;
 use std::io;
 use std::io::Read;
 
 // Why a row is not looked at, in words.
-fn reason(n: u32) -> &'static str {
-    match n {
-        30 => "nothing yet: no such whole radial",
+fn reason(refusal: Refusal) -> &'static str {
+    match refusal {
+        Refusal::NoRadial => "nothing yet: no such whole radial",
         _ => "no such moment in the radial",
     }
 }
 
-fn print_answer(out: &impl Print, answer: CheckAnswer) -> io::Result<()> {
+fn print_answer(out: &impl Print, answer: Result<Compared, Refusal>) -> io::Result<()> {
     match answer {
-        CheckAnswer::Same => println!(out; "same"),
-        CheckAnswer::Differs(gate) => println!(out; "differs {gate}"),
-        CheckAnswer::Refused(n) => println!(out; "refused {n} 0\n{}", reason(n)),
+        Ok(Compared::Same) => println!(out; "same"),
+        Ok(Compared::Differs(gate)) => println!(out; "differs {gate}"),
+        Err(refusal) => println!(out; "refused {} 0\n{}", refusal.number(), reason(refusal)),
     }
 }
 

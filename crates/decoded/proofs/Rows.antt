@@ -8,9 +8,9 @@ use borrow.Author.Tests.{le-leb}
 use lib.IntN.{ℤ}
 use lib.ListN.{length, take, drop, length-append}
 use lib.Seq.{drop-length, take-length, take-append_seam}
+use Rattle.std.specs.Prelude.{Result, Ok}
+use Rattle.refusal.specs.declared.Refusal.{Refusal}
 use Rattle.gates.specs.declared.Coding.{Coding}
-use Rattle.gates.specs.declared.RowAnswer.{RowAnswer}
-use Rattle.gates.specs.declared.RowAnswer.TheVariants.{Filled}
 use Rattle.gates.specs.Rows.{told_row, row_kinds, row_hundredths, rooms, filled, Rowed}
 use Rattle.gates.specs.Telling.{answered}
 use Rattle.gates.proofs.Rows.{IsFilled, row-filled}
@@ -32,7 +32,7 @@ module _ {A : Type 0} where
   filled-front new old m room e x = rw (x, e) (take-append_seam new (drop (length new) old))
 
 -- a row that was answered is one of a moment that is there
-row-there : (f : List ℕ) (n t m : ℕ) (k k' : List ℕ) (h h' : List ℤ) (r : RowAnswer) → told_row r ≡ answered m → RowAsked f n t k h r k' h' → There f n t
+row-there : (f : List ℕ) (n t m : ℕ) (k k' : List ℕ) (h h' : List ℤ) (r : Result ℕ Refusal) → told_row r ≡ answered m → RowAsked f n t k h r k' h' → There f n t
 unfolding RowTold
 row-there f n t m k k' h h' r e x =
     let no : (number : ℕ) → Unfilled number k h r k' h' → There f n t = λ number y. absurd (not-filled r m number e y.answer) in
@@ -77,19 +77,19 @@ module _ (f : List ℕ) (n t : ℕ) (w : There f n t) where
       is-differs (take a kinds) (take b hundredths) (min a b) (x ∙ omega arith) (λ e. let r = e.row in omega arith)
 
   -- the row question, lent rooms of the row's length that hold it
-  is-rowed : Rowed c own kinds hundredths (Filled (length kinds)) kinds hundredths
+  is-rowed : Rowed c own kinds hundredths (Ok (length kinds)) kinds hundredths
   is-rowed =
       let mk = many-kinds c own in
       let mh = many-hundredths c own in
       let r : rooms own kinds hundredths ≡ true = rw (le-leb (length own) (length kinds) (omega arith), le-leb (length own) (length hundredths) (omega arith)) in
       record { answer = rw (r, mk); kinds = rw r (sym (filled-all kinds kinds refl)); hundredths = rw r (sym (filled-all hundredths hundredths refl)) }
 
-  own-refilled : (length hundredths ≡ length kinds) × RowAsked f n t kinds hundredths (Filled (length kinds)) kinds hundredths
+  own-refilled : (length hundredths ≡ length kinds) × RowAsked f n t kinds hundredths (Ok (length kinds)) kinds hundredths
   unfolding RowTold
   own-refilled = (many-hundredths c own ∙ sym (many-kinds c own), rw w.at is-rowed)
 
   -- what the row question filled
-  is-filled : (m : ℕ) (k k' : List ℕ) (h h' : List ℤ) (r : RowAnswer) → told_row r ≡ answered m → RowAsked f n t k h r k' h' → IsFilled c own k h m k' h'
+  is-filled : (m : ℕ) (k k' : List ℕ) (h h' : List ℤ) (r : Result ℕ Refusal) → told_row r ≡ answered m → RowAsked f n t k h r k' h' → IsFilled c own k h m k' h'
   unfolding RowTold
   is-filled m k k' h h' r e x = row-filled m (rw w.at at x) e
 
@@ -112,10 +112,10 @@ module _ (f : List ℕ) (n t : ℕ) (w : There f n t) where
     by-own P e x = let o = is-own e in subst (λ (y : List ℕ). P y h) (sym o.0) (subst (P kinds) (sym o.1) x)
 
 module _ (f : List ℕ) (n t : ℕ) (k : List ℕ) (h : List ℤ) where
-  refilled_same : length h ≡ length k → RowAsked f n t k h (Filled (length k)) k h → check_asked f n t k h ≡ answered same
+  refilled_same : length h ≡ length k → RowAsked f n t k h (Ok (length k)) k h → check_asked f n t k h ≡ answered same
   refilled_same l x =
-      let w = row-there f n t (length k) k k h h (Filled (length k)) refl x in
-      rw (take-length k, ← l, take-length h) at (filled-same f n t w (length k) k k h h (is-filled f n t w (length k) k k h h (Filled (length k)) refl x))
+      let w = row-there f n t (length k) k k h h (Ok (length k)) refl x in
+      rw (take-length k, ← l, take-length h) at (filled-same f n t w (length k) k k h h (is-filled f n t w (length k) k k h h (Ok (length k)) refl x))
 
   there : (x : Checked) → check_asked f n t k h ≡ answered x → There f n t
   there = found f n t k h
@@ -130,7 +130,7 @@ module _ (f : List ℕ) (n t : ℕ) (k : List ℕ) (h : List ℤ) where
         first = λ g. (λ e. differs-first f n t (there (differs g) e) k h g e, λ a. first-differs f n t a.moment k h g a);
         lists = λ s p q. let w : There f n t = record { stretch = s; place = p; at = q } in (is-own f n t w k h, own_is f n t w k h);
         refilled = (
-          λ e. let w = there same e in by-own f n t w k h (λ (x : List ℕ) (y : List ℤ). (length y ≡ length x) × RowAsked f n t x y (Filled (length x)) x y) e (own-refilled f n t w),
+          λ e. let w = there same e in by-own f n t w k h (λ (x : List ℕ) (y : List ℤ). (length y ≡ length x) × RowAsked f n t x y (Ok (length x)) x y) e (own-refilled f n t w),
           λ x. refilled_same x.0 x.1,
         );
         longer = λ e ks hs some.

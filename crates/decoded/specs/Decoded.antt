@@ -1,5 +1,9 @@
 -- What is said of a row that somebody decoded (document 02, #112): the row of a file, as two lists, against two lent ones.
-use Rattle.std.specs.Prelude.{ℕ, suc, min, Bool, false, cond, ◌&&◌, List, [], ◌∷◌, eqb, ℤ, pos, negsuc, length}
+use Rattle.std.specs.Prelude.{ℕ, suc, min, Bool, false, cond, ◌&&◌, List, [], ◌∷◌, eqb, ℤ, pos, negsuc, length, Result, Ok, Err}
+use Rattle.decoded.specs.declared.Compared.TheVariants.{Same, Differs}
+use Rattle.refusal.specs.declared.Refusal.{Refusal}
+use Rattle.refusal.specs.Refusal.{number_of}
+use Rattle.decoded.specs.declared.Compared.{Compared}
 use Rattle.moment.specs.Moment.{moment_at}
 use Rattle.gates.specs.declared.Coding.{Coding}
 use Rattle.gates.specs.Codes.{codes_of}
@@ -11,8 +15,6 @@ use Rattle.ask.specs.declared.places.Where.{Where}
 use Rattle.ask.specs.declared.places.Where.TheVariants.{At, NoRadial, NoMoment}
 use Rattle.ask.specs.Answers.{coding_of}
 use Rattle.ask.specs.Places.{where_is}
-use Rattle.decoded.specs.declared.CheckAnswer.{CheckAnswer}
-use Rattle.decoded.specs.declared.CheckAnswer.TheVariants.{Same, Differs, Refused}
 
 -- whether two whole numbers are the same
 abbrev pub eqℤ : ℤ → ℤ → Bool
@@ -41,11 +43,14 @@ unfoldable pub checked : Coding → List ℕ → List ℕ → List ℤ → Check
 checked c codes k h =
     cond (eqb (agreed c codes k h) (length codes) && (eqb (length k) (length codes) && eqb (length h) (length codes))) same (differs (agreed c codes k h))
 
+abbrev pub told_compared : Compared → Checked
+told_compared Same = same
+told_compared (Differs i) = differs i
+
 -- an answer: yes or the gate; or the refusal's number, and place 0
-abbrev pub told_check : CheckAnswer → Telling Checked
-told_check Same = answered same
-told_check (Differs i) = answered (differs i)
-told_check (Refused number) = refused number 0
+abbrev pub told_check : Result Compared Refusal → Telling Checked
+told_check (Ok x) = answered (told_compared x)
+told_check (Err e) = refused (number_of e) 0
 
 -- of the moment where it was found: 30 and 31 as for a row
 unfoldable pub check_told : List ℕ → Where → List ℕ → List ℤ → Telling Checked

@@ -1,8 +1,7 @@
 -- What the answer on a decoded row means (document 02, #112), by what the gate question and the row question answer.
-use Rattle.std.specs.Prelude.{ℕ, ◌+◌, ◌≤◌, ◌<◌, min, List, ◌++◌, ◌↔◌, ◌≡◌, ℤ, length, take}
+use Rattle.std.specs.Prelude.{ℕ, ◌+◌, ◌≤◌, ◌<◌, min, List, ◌++◌, ◌↔◌, ◌≡◌, ℤ, length, take, Result, Ok}
+use Rattle.refusal.specs.declared.Refusal.{Refusal}
 use Rattle.moment.specs.Moment.{moment_at}
-use Rattle.gates.specs.declared.RowAnswer.{RowAnswer}
-use Rattle.gates.specs.declared.RowAnswer.TheVariants.{Filled}
 use Rattle.gates.specs.Codes.{codes_of}
 use Rattle.gates.specs.Rows.{told_row, row_kinds, row_hundredths}
 use Rattle.gates.specs.Telling.{refused, answered}
@@ -59,7 +58,7 @@ module _ (f : List ℕ) (n t : ℕ) (k : List ℕ) (h : List ℤ) where
         let codes = codes_of (moment_at (bytes_of f s) p).bin_length (data_at (bytes_of f s) p) in
         (check_asked f n t k h ≡ answered same) ↔ ((k ≡ row_kinds c codes) × (h ≡ row_hundredths c codes))
     -- yes exactly when the row question, lent these very lists, fills all of both and changes nothing
-    pub refilled : (check_asked f n t k h ≡ answered same) ↔ ((length h ≡ length k) × RowAsked f n t k h (Filled (length k)) k h)
+    pub refilled : (check_asked f n t k h ≡ answered same) ↔ ((length h ≡ length k) × RowAsked f n t k h (Ok (length k)) k h)
     -- lists that go on behind the row differ at its end, whichever goes on; those that end before it, at the first end
     pub longer : check_asked f n t k h ≡ answered same → (ks : List ℕ) (hs : List ℤ) → 0 < length ks + length hs
         → check_asked f n t (k ++ ks) (h ++ hs) ≡ answered (differs (length k))
@@ -68,5 +67,5 @@ module _ (f : List ℕ) (n t : ℕ) (k : List ℕ) (h : List ℤ) where
 
 -- what the row question filled is answered yes, whatever the rooms held and hold past it
 abbrev pub FilledIsRow : Type 0
-FilledIsRow = (f : List ℕ) (n t m : ℕ) (k k' : List ℕ) (h h' : List ℤ) (r : RowAnswer) → told_row r ≡ answered m → RowAsked f n t k h r k' h'
+FilledIsRow = (f : List ℕ) (n t m : ℕ) (k k' : List ℕ) (h h' : List ℤ) (r : Result ℕ Refusal) → told_row r ≡ answered m → RowAsked f n t k h r k' h'
     → check_asked f n t (take m k') (take m h') ≡ answered same

@@ -6,22 +6,21 @@ ghost use Rattle.std.specs.Prelude.{◌≡◌, cond, ◌&&◌, eqb, pos, ◌+ℤ
 ghost use Rattle.gates.specs.Codes.{codes_of};
 ghost use Rattle.gates.specs.Gates.{hundredths_of, kind_of};
 ghost use Rattle.gates.specs.Rows.{shown_of};
-ghost use Rattle.gates.specs.Telling.{answered};
 ghost use Rattle.ask.specs.Places.{where_is};
-ghost use Rattle.decoded.specs.Decoded.{eqℤ, agreed, checked, told_check, check_told};
+ghost use Rattle.decoded.specs.Decoded.{eqℤ, agreed, checked, told_compared, told_check, check_told};
 
 use ask::places::Where;
 use ask::{answers, places};
 use gates::{Coding, Gate};
 use moment::Moment;
+use refusal::Refusal;
 
 #[derive(Clone, Copy)]
-pub enum CheckAnswer {
+pub enum Compared {
     // Both lists are the row.
     Same,
     // The first gate at which one of them differs from it.
     Differs(usize),
-    Refused(u32),
 }
 
 // ---- a gate
@@ -83,37 +82,43 @@ fn agree(bytes: &[u8], bin: u16, c: Coding, kinds: &[u8], hundredths: &[i32]) ->
 }
 
 #[tactic(auto, using(std::proofs::lemmas::Bool::Decides::nat_tests), unfolding(crate::specs::Decoded::checked))]
-fn compare(bytes: &[u8], bin: u16, c: Coding, kinds: &[u8], hundredths: &[i32]) -> CheckAnswer
-    ensures { told_check result ≡ answered (checked c (codes_of bin bytes.now) kinds.now hundredths.now) }
+fn compare(bytes: &[u8], bin: u16, c: Coding, kinds: &[u8], hundredths: &[i32]) -> Compared
+    ensures { told_compared result ≡ checked c (codes_of bin bytes.now) kinds.now hundredths.now }
 {
     let n = gates::gates_in(bytes, bin);
     let i = agree(bytes, bin, c, kinds, hundredths);
     if i == n && kinds.len() == n && hundredths.len() == n {
-        CheckAnswer::Same
+        Compared::Same
     } else {
-        CheckAnswer::Differs(i)
+        Compared::Differs(i)
     }
 }
 
 // ---- a file
 
 // Whether two lists are the kinds and the hundredths of all gates of the moment of a type.
-pub fn check(file: &[u8], sequence: usize, t: u32, kinds: &[u8], hundredths: &[i32]) -> CheckAnswer
+pub fn check(
+    file: &[u8],
+    sequence: usize,
+    t: u32,
+    kinds: &[u8],
+    hundredths: &[i32],
+) -> Result<Compared, Refusal>
     ensures { told_check result ≡ check_told file.now (where_is file.now sequence t) kinds.now hundredths.now }
 {
     match places::find(file, sequence, t) {
         Where::At(s, p) => {
             let b = reading::own(file, s);
             let h = Moment::read(b, p);
-            compare(
+            Ok(compare(
                 moments::data(b, p),
                 h.bin_length,
                 answers::coding(h),
                 kinds,
                 hundredths,
-            )
+            ))
         }
-        Where::NoRadial => CheckAnswer::Refused(30),
-        Where::NoMoment => CheckAnswer::Refused(31),
+        Where::NoRadial => Err(Refusal::NoRadial),
+        Where::NoMoment => Err(Refusal::NoMoment),
     }
 }

@@ -9,14 +9,14 @@ use borrow.Author.Tests.{le-leb, le-ltb, lt-leb, lt-ltb, ltb-true, leb-false}
 use lib.Dec.{eqb, leb, ltb}
 use lib.IntN.{ℤ}
 use lib.ListN.{length}
-use Rattle.std.specs.Prelude.{Option, Some, None}
+use Rattle.std.specs.Prelude.{Option, Some, None, Result, Err}
+use Rattle.refusal.specs.declared.Refusal.{Refusal}
+use Rattle.refusal.specs.Refusal.{number_of}
 use Rattle.le.specs.Le.{stored, Bytes}
 use Rattle.le.proofs.Laws.{stored_no}
 use Rattle.le.proofs.Tests.{both}
 use Rattle.wedge.specs.declared.Wedge.{Wedge}
 use Rattle.wedge.specs.Wedge.{wedge_ok}
-use Rattle.gates.specs.declared.RowAnswer.{RowAnswer}
-use Rattle.gates.specs.declared.RowAnswer.TheVariants as row
 use Rattle.gates.specs.Codes.{codes_of}
 use Rattle.gates.specs.Rows.{rooms, Rowed}
 use Rattle.gates.specs.Telling.{refused, answered}
@@ -48,8 +48,6 @@ use Rattle.decoded.specs.Exactly.{There}
 use Rattle.citing.proofs.Alone.{because}
 use Rattle.decoded.proofs.Exactly.{is-checked}
 use Rattle.decoded.proofs.Tellings.{told-check-one}
-use Rattle.index.specs.declared.Answer.{Answer}
-use Rattle.index.specs.declared.Answer.TheVariants as index
 use Rattle.index.specs.Answer.{complete, right_for, told_index, answer_of, room_of, Writes}
 use Rattle.index.specs.Index.{index_of}
 use Rattle.index.proofs.Same.{told-once}
@@ -61,7 +59,6 @@ use Rattle.writer.specs.Put.{last_tests, checked, answer_to, outcome, Outcome, p
 use Rattle.writer.proofs.Same.{tests-agreement}
 use Rattle.writer.proofs.Told.{puts-same}
 use Rattle.shelf.proofs.Bringing.{refused_all}
-use Rattle.mend.specs.declared.Mended.TheVariants as mended
 use Rattle.mend.specs.Kept.{last_kept}
 use Rattle.mend.specs.Mend as mend
 use Rattle.mend.proofs.Longest.{nothing}
@@ -110,7 +107,7 @@ questions f n t =
       as-asked = as-asked f n t;
     }
 
-rows : (f : List ℕ) (at : Where) (k k' : List ℕ) (h h' : List ℤ) (r : RowAnswer) → Row f at k k' h h' r
+rows : (f : List ℕ) (at : Where) (k k' : List ℕ) (h h' : List ℤ) (r : Result ℕ Refusal) → Row f at k k' h h' r
 unfolding RowTold
 rows f at k k' h h' r =
     record {
@@ -253,17 +250,17 @@ put-kept b w room n p e = go (agrees w room) refl
     go true a = rw (put-yes b w room a) (put-on-kept b w room n p (rw (put-yes b w room a) at e))
     go false a = rw (put-no b w room a) (refl, refl)
 
-row_kept : (f : List ℕ) (at : Where) (k k' : List ℕ) (h h' : List ℤ) (n : ℕ) → RowTold f at k h (row.Refused n) k' h' → (k' ≡ k) × (h' ≡ h)
+row_kept : (f : List ℕ) (at : Where) (k k' : List ℕ) (h h' : List ℤ) (x : Refusal) → RowTold f at k h (Err x) k' h' → (k' ≡ k) × (h' ≡ h)
 unfolding RowTold
-row_kept f NoRadial k k' h h' n r = (r.kinds, r.hundredths)
-row_kept f NoMoment k k' h h' n r = (r.kinds, r.hundredths)
-row_kept f (At s p) k k' h h' n r =
+row_kept f NoRadial k k' h h' x r = (r.kinds, r.hundredths)
+row_kept f NoMoment k k' h h' x r = (r.kinds, r.hundredths)
+row_kept f (At s p) k k' h h' x r =
     let codes = codes_of (moment_at (bytes_of f s) p).bin_length (data_at (bytes_of f s) p) in
     go (rooms codes k h) refl
   where
     go : (t : Bool) → rooms (codes_of (moment_at (bytes_of f s) p).bin_length (data_at (bytes_of f s) p)) k h ≡ t → (k' ≡ k) × (h' ≡ h)
     go true e =
-        let a : refused n 0 ≡ answered (length (codes_of (moment_at (bytes_of f s) p).bin_length (data_at (bytes_of f s) p))) = rw e at r.answer in
+        let a : refused (number_of x) 0 ≡ answered (length (codes_of (moment_at (bytes_of f s) p).bin_length (data_at (bytes_of f s) p))) = rw e at r.answer in
         absurd (let z : ◌≡◌ {A = ℕ} 0 1 = cc in omega arith)
     go false e = (rw e at r.kinds, rw e at r.hundredths)
 
@@ -272,18 +269,18 @@ too_long x room e =
     let l = leb-false (length x) (length room) e in
     stored_no (length x) room 0 x (lt-leb (0 + length x) (length room) (omega arith))
 
-index_kept : (f before after : List ℕ) (n : ℕ) → Writes f before (index.Refused n) after → after ≡ before
+index_kept : (f before after : List ℕ) (x : Refusal) → Writes f before (Err x) after → after ≡ before
 unfolding told_index answer_of room_of
-index_kept f before after n r = go (complete f) (leb (length (index_of f)) (length before)) refl refl
+index_kept f before after x r = go (complete f) (leb (length (index_of f)) (length before)) refl refl
   where
     go : (c t : Bool) → complete f ≡ c → leb (length (index_of f)) (length before) ≡ t → after ≡ before
     go true true p q = absurd (let z : ◌≡◌ {A = ℕ} 2 1 = ap (λ (x : List ℕ). length x) (rw (p, q) at r.answer) in omega arith)
     go true false p q = rw p at r.room ∙ too_long (index_of f) before q
     go false t p q = rw p at r.room
 
-mended-kept : (f before after : List ℕ) (n : ℕ) → mend.Mends f before (mended.Refused n) after → after ≡ before
+mended-kept : (f before after : List ℕ) (x : Refusal) → mend.Mends f before (Err x) after → after ≡ before
 unfolding mend.answer_by mend.room_by
-mended-kept f before after n r = go (last_kept f) refl
+mended-kept f before after x r = go (last_kept f) refl
   where
     go : (w : Option Stretch) → last_kept f ≡ w → after ≡ before
     go None e = rw e at r.room
@@ -291,7 +288,7 @@ mended-kept f before after n r = go (last_kept f) refl
       where
         by : (t : Bool) → leb (length (mend.mended f s)) (length before) ≡ t → after ≡ before
         by true q =
-            let a : refused n 0 ≡ answered (mend.said (length (mend.mended f s)) (mend.report_of f s)) = rw (e, q) at r.answer in
+            let a : refused (number_of x) 0 ≡ answered (mend.said (length (mend.mended f s)) (mend.report_of f s)) = rw (e, q) at r.answer in
             absurd (let z : ◌≡◌ {A = ℕ} 0 1 = cc in omega arith)
         by false q = rw e at r.room ∙ too_long (mend.mended f s) before q
 

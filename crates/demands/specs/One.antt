@@ -2,14 +2,15 @@
 -- No public function has a condition on its caller, so each promise answers every input. Here: that every file has an
 -- ending; the numbers, the places and the order of the refusals; that everything lent is then what it was; and that no
 -- promise leaves a choice.
-use Rattle.std.specs.Prelude.{true, false, List, [], ◌∷◌, ◌↔◌, ◌⊎◌, ◌≡◌, ℕ, ◌+◌, ◌≤◌, ◌<◌, ℤ, length, Some, None}
+use Rattle.std.specs.Prelude.{true, false, List, [], ◌∷◌, ◌↔◌, ◌⊎◌, ◌≡◌, ℕ, ◌+◌, ◌≤◌, ◌<◌, ℤ, length, Some, None, Result, Err}
+use Rattle.refusal.specs.declared.Refusal.{Refusal}
+use Rattle.decoded.specs.declared.Compared.{Compared}
+use Rattle.mend.specs.declared.report.Report.{Report}
 use Rattle.le.specs.Le.{stored, Bytes}
 use Rattle.wedge.specs.declared.Wedge.{Wedge}
 use Rattle.wedge.specs.Wedge.{wedge_ok}
 use Rattle.gates.specs.declared.Coding.{Coding}
 use Rattle.gates.specs.declared.Gate.{Gate}
-use Rattle.gates.specs.declared.RowAnswer.{RowAnswer}
-use Rattle.gates.specs.declared.RowAnswer.TheVariants as row
 use Rattle.gates.specs.declared.Told.{Told}
 use Rattle.gates.specs.Codes.{codes_of}
 use Rattle.gates.specs.Gates.{told_gate, values_of}
@@ -27,11 +28,9 @@ use Rattle.reading.specs.declared.Stretch.{Stretch}
 use Rattle.reading.specs.declared.Verdict.{Verdict}
 use Rattle.reading.specs.declared.step.Step.TheVariants as step
 use Rattle.reading.specs.Reading.{Tells, verdict_told, stop, stretches, nth, told, bytes_of}
-use Rattle.ask.specs.declared.answers.GateAnswer.{GateAnswer}
 use Rattle.ask.specs.declared.places.Where.{Where}
 use Rattle.ask.specs.declared.places.Where.TheVariants.{At, NoRadial, NoMoment}
 use Rattle.ask.specs.declared.tallies.Tally.{Tally}
-use Rattle.ask.specs.declared.tallies.TallyAnswer.{TallyAnswer}
 use Rattle.ask.specs.Answers.{radial_of_file, moment_told, told_moment, data_told, told_gate_answer, RowTold}
 use Rattle.ask.specs.Asked.{AsAsked}
 use Rattle.ask.specs.Growth.{gate_asked}
@@ -39,10 +38,7 @@ use Rattle.ask.specs.Places.{where_is}
 use Rattle.ask.specs.Tallies.{tally_of, cut_accepted, told_tally, tally_answer}
 use Rattle.lent.specs.Lending.{lent_of, told_lent}
 use Rattle.citing.specs.Answers.{told_why_gate, why_gate}
-use Rattle.decoded.specs.declared.CheckAnswer.{CheckAnswer}
 use Rattle.decoded.specs.Decoded.{Checked, told_check, check_asked}
-use Rattle.index.specs.declared.Answer.{Answer}
-use Rattle.index.specs.declared.Answer.TheVariants as index
 use Rattle.index.specs.Answer.{complete, answer_of, right_for, Writes}
 use Rattle.index.specs.Index.{index_of}
 use Rattle.writer.specs.declared.order.Answer.TheVariants.{Refused}
@@ -51,16 +47,12 @@ use Rattle.writer.specs.Agree.{same_kind, agrees, TestsAgreement}
 use Rattle.writer.specs.Block.{Block, kind_of, says_of, fits_of, length_of}
 use Rattle.writer.specs.Put.{Outcome, Puts, put, put_on}
 use Rattle.shelf.specs.Import.{import_of}
-use Rattle.mend.specs.declared.Mended.{Mended}
-use Rattle.mend.specs.declared.Mended.TheVariants as mended
 use Rattle.mend.specs.Closed.{NoTwo}
 use Rattle.mend.specs.Kept.{last_kept}
 use Rattle.mend.specs.Mend as mend
 use Rattle.pick.specs.declared.Picked.{Picked}
 use Rattle.pick.specs.declared.Picked.TheVariants as picked
 use Rattle.pick.specs.Pick as pick
-use Rattle.engine.specs.declared.ListAnswer.{ListAnswer}
-use Rattle.engine.specs.declared.ListAnswer.TheVariants as listed
 use Rattle.engine.specs.Engine as engine
 
 -- a file is complete, open with the missing bytes, or refused with number and place
@@ -88,7 +80,7 @@ pub record Questions (f : List ℕ) (n t : ℕ) : Type 0 where
   pub as-asked : AsAsked f n t
 
 -- a row is refused by 30 and 31 as a gate is, and then by 33 where either buffer is too short, all with place 0
-pub record Row (f : List ℕ) (at : Where) (k k' : List ℕ) (h h' : List ℤ) (r : RowAnswer) : Type 0 where
+pub record Row (f : List ℕ) (at : Where) (k k' : List ℕ) (h h' : List ℤ) (r : Result ℕ Refusal) : Type 0 where
   pub row-30 : at ≡ NoRadial → RowTold f at k h r k' h' → told_row r ≡ refused 30 0
   pub row-31 : at ≡ NoMoment → RowTold f at k h r k' h' → told_row r ≡ refused 31 0
   pub row-33 : (s : Stretch) (p : ℕ) → at ≡ At s p → rooms (codes_of (moment_at (bytes_of f s) p).bin_length (data_at (bytes_of f s) p)) k h ≡ false
@@ -155,14 +147,14 @@ pub record Unchanged : Type 0 where
   pub put : (b : Block) (w : Walk) (room : List ℕ) (n p : ℕ) → (put b w room).answer ≡ Refused n p → ((put b w room).walk ≡ w) × ((put b w room).room ≡ room)
   pub put_on : (b : Block) (w : Walk) (room : List ℕ) (n p : ℕ) → (put_on b w room).answer ≡ Refused n p
       → ((put_on b w room).walk ≡ w) × ((put_on b w room).room ≡ room)
-  pub row : (f : List ℕ) (at : Where) (k k' : List ℕ) (h h' : List ℤ) (n : ℕ) → RowTold f at k h (row.Refused n) k' h' → (k' ≡ k) × (h' ≡ h)
+  pub row : (f : List ℕ) (at : Where) (k k' : List ℕ) (h h' : List ℤ) (e : Refusal) → RowTold f at k h (Err e) k' h' → (k' ≡ k) × (h' ≡ h)
   pub tally : (old : Tally) (n p : ℕ) → (lent_of old (refused n p)).tally ≡ old
-  pub index : (f before after : List ℕ) (n : ℕ) → Writes f before (index.Refused n) after → after ≡ before
+  pub index : (f before after : List ℕ) (e : Refusal) → Writes f before (Err e) after → after ≡ before
   pub imported : (g : Generic) (s : Site) (t : Task) (c f room : List ℕ) (n p : ℕ) → (import_of g s t c f room).answer ≡ Refused n p
       → ((import_of g s t c f room).walk ≡ at_start) × ((import_of g s t c f room).room ≡ room)
-  pub mended : (f before after : List ℕ) (n : ℕ) → mend.Mends f before (mended.Refused n) after → after ≡ before
+  pub mended : (f before after : List ℕ) (e : Refusal) → mend.Mends f before (Err e) after → after ≡ before
   pub picked : (f : List ℕ) (wanted : ℕ) (before after : List ℕ) (n p : ℕ) → pick.Picks f wanted before (picked.Refused n p) after → after ≡ before
-  pub listed : (f x : List ℕ) (qs : List engine.Question) (k k' : List ℕ) (h h' : List ℤ) (n : ℕ) → engine.Answers f x qs k h (listed.Refused n) k' h' → (k' ≡ k) × (h' ≡ h)
+  pub listed : (f x : List ℕ) (qs : List engine.Question) (k k' : List ℕ) (h h' : List ℤ) (e : Refusal) → engine.Answers f x qs k h (Err e) k' h' → (k' ≡ k) × (h' ≡ h)
   pub block : (n : ℕ) (room : List ℕ) (at : ℕ) (bs : List ℕ) → length room < at + n → stored n room at bs ≡ room
 
 -- two results that keep one promise are the same: those of reading, of a gate, of what is told of it and of its answer, of
@@ -173,24 +165,24 @@ pub record Determined : Type 0 where
   pub reading : (f : List ℕ) (a b : Reading) → Tells f a → Tells f b → a ≡ b
   pub gate : (a b : Gate) → told_gate a ≡ told_gate b → a ≡ b
   pub gate-told : (a b : Told) → values_of a ≡ values_of b → a ≡ b
-  pub gate-asked : (a b : GateAnswer) → told_gate_answer a ≡ told_gate_answer b → a ≡ b
-  pub check : (a b : CheckAnswer) → told_check a ≡ told_check b → a ≡ b
-  pub tally : (a b : TallyAnswer) → told_tally a ≡ told_tally b → a ≡ b
-  pub row : (c : Coding) (codes k : List ℕ) (h : List ℤ) (a b : RowAnswer) (k₁ k₂ : List ℕ) (h₁ h₂ : List ℤ) → Rowed c codes k h a k₁ h₁ → Rowed c codes k h b k₂ h₂
+  pub gate-asked : (a b : Result Told Refusal) → told_gate_answer a ≡ told_gate_answer b → a ≡ b
+  pub check : (a b : Result Compared Refusal) → told_check a ≡ told_check b → a ≡ b
+  pub tally : (a b : Result Tally Refusal) → told_tally a ≡ told_tally b → a ≡ b
+  pub row : (c : Coding) (codes k : List ℕ) (h : List ℤ) (a b : Result ℕ Refusal) (k₁ k₂ : List ℕ) (h₁ h₂ : List ℤ) → Rowed c codes k h a k₁ h₁ → Rowed c codes k h b k₂ h₂
       → (a ≡ b) × (k₁ ≡ k₂) × (h₁ ≡ h₂)
-  pub row-asked : (f : List ℕ) (at : Where) (k : List ℕ) (h : List ℤ) (a b : RowAnswer) (k₁ k₂ : List ℕ) (h₁ h₂ : List ℤ) → RowTold f at k h a k₁ h₁ → RowTold f at k h b k₂ h₂
+  pub row-asked : (f : List ℕ) (at : Where) (k : List ℕ) (h : List ℤ) (a b : Result ℕ Refusal) (k₁ k₂ : List ℕ) (h₁ h₂ : List ℤ) → RowTold f at k h a k₁ h₁ → RowTold f at k h b k₂ h₂
       → (a ≡ b) × (k₁ ≡ k₂) × (h₁ ≡ h₂)
-  pub index : (f before : List ℕ) (a b : Answer) (x y : List ℕ) → Writes f before a x → Writes f before b y → (a ≡ b) × (x ≡ y)
-  pub mended : (f before : List ℕ) (a b : Mended) (x y : List ℕ) → mend.Mends f before a x → mend.Mends f before b y → (a ≡ b) × (x ≡ y)
+  pub index : (f before : List ℕ) (a b : Result ℕ Refusal) (x y : List ℕ) → Writes f before a x → Writes f before b y → (a ≡ b) × (x ≡ y)
+  pub mended : (f before : List ℕ) (a b : Result (ℕ × Report) Refusal) (x y : List ℕ) → mend.Mends f before a x → mend.Mends f before b y → (a ≡ b) × (x ≡ y)
   pub picked : (f : List ℕ) (wanted : ℕ) (before : List ℕ) (a b : Picked) (x y : List ℕ) → pick.Picks f wanted before a x → pick.Picks f wanted before b y → (a ≡ b) × (x ≡ y)
-  pub listed : (f x : List ℕ) (qs : List engine.Question) (k : List ℕ) (h : List ℤ) (a b : ListAnswer) (k₁ k₂ : List ℕ) (h₁ h₂ : List ℤ)
+  pub listed : (f x : List ℕ) (qs : List engine.Question) (k : List ℕ) (h : List ℤ) (a b : Result ℕ Refusal) (k₁ k₂ : List ℕ) (h₁ h₂ : List ℤ)
       → engine.Answers f x qs k h a k₁ h₁ → engine.Answers f x qs k h b k₂ h₂ → (a ≡ b) × (k₁ ≡ k₂) × (h₁ ≡ h₂)
   pub put : (o : Outcome) (p q : Put) (held other : List ℕ) → Puts o p held → Puts o q other → (p ≡ q) × (held ≡ other)
 
 pub record DemandOne : Type 0 where
   pub endings : (f : List ℕ) → Ending f
   pub questions : (f : List ℕ) (n t : ℕ) → Questions f n t
-  pub rows : (f : List ℕ) (at : Where) (k k' : List ℕ) (h h' : List ℤ) (r : RowAnswer) → Row f at k k' h h' r
+  pub rows : (f : List ℕ) (at : Where) (k k' : List ℕ) (h h' : List ℤ) (r : Result ℕ Refusal) → Row f at k k' h h' r
   pub tallies : (f : List ℕ) (cut t : ℕ) (w : Wedge) → Tallied f cut t w
   pub indexes : (f : List ℕ) (room : ℕ) → Indexed f room
   pub mends : (f : List ℕ) (room : ℕ) → Bytes f → MendRefused f room

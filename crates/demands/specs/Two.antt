@@ -1,5 +1,6 @@
 -- DEMAND 2: reading means what the standard says, as document 01 settles it, and document 02 after it.
-use Rattle.std.specs.Prelude.{true, false, List, [], ◌∷◌, map, ◌⊎◌, ◌≡◌, ℕ, ◌<◌, ◌≤◌, ℤ, pos, length}
+use Rattle.std.specs.Prelude.{true, false, List, [], ◌∷◌, map, ◌⊎◌, ◌≡◌, ℕ, ◌<◌, ◌≤◌, ℤ, pos, length, Result}
+use Rattle.refusal.specs.declared.Refusal.{Refusal}
 use Rattle.rules.specs.declared.check.Clause.{Clause}
 use Rattle.le.specs.Le.{Bytes}
 use Rattle.std.specs.Prelude.{Ok, Err}
@@ -18,7 +19,6 @@ use Rattle.site.specs.Site.{site_of, site_bytes, SiteFits, site_size}
 use Rattle.task.specs.Task.{task_of, task_bytes, TaskFits, task_size}
 use Rattle.wedge.specs.declared.Wedge.{Wedge}
 use Rattle.gates.specs.declared.Coding.{Coding}
-use Rattle.gates.specs.declared.RowAnswer.{RowAnswer}
 use Rattle.gates.specs.declared.Gate.TheVariants.{BelowThreshold, RangeFolded, NotScanned, Unknown, Reserved, Value, Class}
 use Rattle.gates.specs.Gates.{is_measurement, gate_of, nothing, kind_of, told_of, values_of, difference_of, float_of, hundredths_of}
 use Rattle.gates.specs.Exact.{Lossless}
@@ -108,7 +108,7 @@ pub record Codes : Type 0 where
 
 -- a row shows of each gate the kind and the hundredths that the gate question answers, and it shows them all
 abbrev pub Rows : Type 0
-Rows = (f : List ℕ) (n t m : ℕ) (k k' : List ℕ) (h h' : List ℤ) (r : RowAnswer) → told_row r ≡ answered m → RowTold f (where_is f n t) k h r k' h' → Shown f n t m k' h'
+Rows = (f : List ℕ) (n t m : ℕ) (k k' : List ℕ) (h h' : List ℤ) (r : Result ℕ Refusal) → told_row r ≡ answered m → RowTold f (where_is f n t) k h r k' h' → Shown f n t m k' h'
 
 -- a tally counts the radials of its cut and wedge, and what the gate question answers of them, each gate once, by its kind: the
 -- seven counts of a radial add up to its gates, and those of a tally to the gates of its radials; a class is counted as a class alone

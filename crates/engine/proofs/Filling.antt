@@ -6,6 +6,8 @@ use mathlib.Core.Bool.{Bool, true, false}
 use mathlib.Core.List.{List}
 use mathlib.Core.Path.{◌≡◌, refl}
 use borrow.Author.Tests.{le-leb}
+use Rattle.std.specs.Prelude.{Ok, Err}
+use Rattle.refusal.specs.declared.Refusal.TheVariants.{NoRoom, WrongIndex}
 use Rattle.std.proofs.lemmas.Bool.Decides.{nat_tests}
 use lib.Dec.{ltb, lit<}
 use lib.IntN.{ℤ}
@@ -23,7 +25,6 @@ use Rattle.ask.specs.Answers.{coding_of, gate_in, gate_told}
 use Rattle.ask.specs.Growth.{gate_asked}
 use Rattle.ask.specs.Places.{where_is}
 use Rattle.index.specs.Answer.{right_for}
-use Rattle.engine.specs.declared.ListAnswer.TheVariants.{Filled, Refused}
 use Rattle.engine.specs.Engine.{Question, kind_shown, hundredths_shown, kind_for, hundredths_for, kinds_of, hundredths_of, answer_of, buffer_of, Answers, rooms}
 use Rattle.engine.specs.Meaning.{Stands, its_own, no-radial, no-moment, no-gate}
 use Rattle.engine.proofs.Listed.{no_question}
@@ -85,19 +86,19 @@ module _ (f : List ℕ) (qs : List Question) (k : List ℕ) (h : List ℤ) where
 
 module _ (f x : List ℕ) (qs : List Question) (k : List ℕ) (h : List ℤ) where
   -- 59, and 33: both buffers are as they were
-  pub not_right : right_for f x ≡ false → Answers f x qs k h (Refused 59) k h
+  pub not_right : right_for f x ≡ false → Answers f x qs k h (Err WrongIndex) k h
   unfolding answer_of buffer_of
   not_right e = record { answer = rw e; kinds = rw e; hundredths = rw e }
 
-  no_room : right_for f x ≡ true → rooms (length qs) k h ≡ false → Answers f x qs k h (Refused 33) k h
+  no_room : right_for f x ≡ true → rooms (length qs) k h ≡ false → Answers f x qs k h (Err NoRoom) k h
   unfolding answer_of buffer_of
   no_room r e = record { answer = rw (r, e); kinds = rw (r, e); hundredths = rw (r, e) }
 
-  pub short : right_for f x ≡ true → min (length k) (length h) < length qs → Answers f x qs k h (Refused 33) k h
+  pub short : right_for f x ≡ true → min (length k) (length h) < length qs → Answers f x qs k h (Err NoRoom) k h
   short r l = no_room r (grind (arith, nat_tests))
 
   pub all-filled : {n : ℕ} {k' : List ℕ} {h' : List ℤ} → right_for f x ≡ true → n ≡ length qs → length qs ≤ length k → length qs ≤ length h
-      → k' ≡ filled (kinds_of f qs) k → h' ≡ filled (hundredths_of f qs) h → Answers f x qs k h (Filled n) k' h'
+      → k' ≡ filled (kinds_of f qs) k → h' ≡ filled (hundredths_of f qs) h → Answers f x qs k h (Ok n) k' h'
   unfolding answer_of buffer_of
   all-filled {n} {k'} {h'} r e lk lh ek eh =
       let room : rooms (length qs) k h ≡ true = rw (le-leb (length qs) (length k) lk, le-leb (length qs) (length h) lh) in

@@ -9,13 +9,14 @@ use mathlib.Core.Path.{◌≡◌, refl, sym, ap, ◌∙◌}
 use lib.IntN.{ℤ, pos}
 use lib.ListN.{length, get_or, drop, length-map}
 use lib.Seq.{drop_at}
+use Rattle.std.specs.Prelude.{Result}
+use Rattle.refusal.specs.declared.Refusal.{Refusal}
 use Rattle.gates.specs.Gates.{Values}
 use Rattle.gates.specs.Rows.{filled}
 use Rattle.gates.specs.Telling.{Telling, refused, answered}
 use Rattle.gates.proofs.Rows.{at-filled}
 use Rattle.ask.specs.Growth.{gate_asked}
 use Rattle.index.specs.Answer.{right_for}
-use Rattle.engine.specs.declared.ListAnswer.{ListAnswer}
 use Rattle.engine.specs.Engine.{Question, asked, kind_for, hundredths_for, kinds_of, hundredths_of, told_list, answer_of, buffer_of, rooms, Answers}
 use Rattle.engine.specs.Meaning.{Stands, its_own, no-radial, no-moment, no-gate, EachStands, AsInRow}
 use Rattle.engine.proofs.Filling.{stands-asked}
@@ -28,7 +29,7 @@ record IsFilled (f : List ℕ) (qs : List Question) (k : List ℕ) (h : List ℤ
   kinds : k' ≡ filled (kinds_of f qs) k
   hundredths : h' ≡ filled (hundredths_of f qs) h
 
-list-filled : (f x : List ℕ) (qs : List Question) (k k' : List ℕ) (h h' : List ℤ) (r : ListAnswer) (m : ℕ) → Answers f x qs k h r k' h' → told_list r ≡ answered m
+list-filled : (f x : List ℕ) (qs : List Question) (k k' : List ℕ) (h h' : List ℤ) (r : Result ℕ Refusal) (m : ℕ) → Answers f x qs k h r k' h' → told_list r ≡ answered m
     → IsFilled f qs k h m k' h'
 unfolding answer_of buffer_of
 list-filled f x qs k k' h h' r m p e = go (right_for f x) refl (rooms (length qs) k h) refl

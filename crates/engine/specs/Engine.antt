@@ -1,13 +1,13 @@
 -- Answers by the index (document 02, #109): what is told of a whole list of questions, and what the two lent buffers then hold. What
 -- stands there for a question is said by the plain walk's own answer.
-use Rattle.std.specs.Prelude.{ℕ, Bool, cond, ◌&&◌, List, [], ◌∷◌, map, ◌≡◌, leb, ℤ, pos, length}
+use Rattle.std.specs.Prelude.{ℕ, Bool, cond, ◌&&◌, List, [], ◌∷◌, map, ◌≡◌, leb, ℤ, pos, length, Result, Ok, Err}
+use Rattle.refusal.specs.declared.Refusal.{Refusal}
+use Rattle.refusal.specs.Refusal.{number_of}
 use Rattle.gates.specs.Gates.{Values}
 use Rattle.gates.specs.Rows.{filled}
 use Rattle.gates.specs.Telling.{Telling, refused, answered}
 use Rattle.ask.specs.Growth.{gate_asked}
 use Rattle.index.specs.Answer.{right_for}
-use Rattle.engine.specs.declared.ListAnswer.{ListAnswer}
-use Rattle.engine.specs.declared.ListAnswer.TheVariants.{Filled, Refused}
 
 -- a radial by its sequence number, a type, and a gate from 0
 pub record Question : Type 0 where
@@ -49,9 +49,9 @@ abbrev pub hundredths_of : List ℕ → List Question → List ℤ
 hundredths_of f qs = map (hundredths_for f) qs
 
 -- how many questions were answered; or the refusal's number, and place 0
-abbrev pub told_list : ListAnswer → Telling ℕ
-told_list (Filled n) = answered n
-told_list (Refused number) = refused number 0
+abbrev pub told_list : Result ℕ Refusal → Telling ℕ
+told_list (Ok n) = answered n
+told_list (Err e) = refused (number_of e) 0
 
 -- whether both buffers have room for n questions
 abbrev pub rooms : ℕ → List ℕ → List ℤ → Bool
@@ -65,7 +65,7 @@ answer_of f x n k h = cond (right_for f x) (cond (rooms n k h) (answered n) (ref
 unfoldable pub buffer_of : {A : Type 0} → Bool → List A → List A → List A
 buffer_of taken shown old = cond taken (filled shown old) old
 
-pub record Answers (f x : List ℕ) (qs : List Question) (k : List ℕ) (h : List ℤ) (r : ListAnswer) (k' : List ℕ) (h' : List ℤ) : Type 0 where
+pub record Answers (f x : List ℕ) (qs : List Question) (k : List ℕ) (h : List ℤ) (r : Result ℕ Refusal) (k' : List ℕ) (h' : List ℤ) : Type 0 where
   pub answer : told_list r ≡ answer_of f x (length qs) k h
   pub kinds : k' ≡ buffer_of (right_for f x && rooms (length qs) k h) (kinds_of f qs) k
   pub hundredths : h' ≡ buffer_of (right_for f x && rooms (length qs) k h) (hundredths_of f qs) h

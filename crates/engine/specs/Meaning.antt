@@ -1,6 +1,7 @@
 -- What the engine's answer means (document 02, #109), question by question, by what the plain walk answers; and how the index leads to a
 -- radial.
-use Rattle.std.specs.Prelude.{ℕ, ◌≤◌, ◌<◌, true, List, ◌⊎◌, ◌≡◌, ℤ, pos, length, get_or, drop}
+use Rattle.std.specs.Prelude.{ℕ, ◌≤◌, ◌<◌, true, List, ◌⊎◌, ◌≡◌, ℤ, pos, length, get_or, drop, Result}
+use Rattle.refusal.specs.declared.Refusal.{Refusal}
 use Rattle.le.specs.Le.{Bytes}
 use Rattle.gates.specs.Gates.{Values}
 use Rattle.gates.specs.Telling.{Telling, refused, answered}
@@ -9,7 +10,6 @@ use Rattle.ask.specs.Growth.{gate_asked}
 use Rattle.ask.specs.Shown as row
 use Rattle.index.specs.Answer.{right_for}
 use Rattle.index.specs.Forms.{place_said, start_of_found}
-use Rattle.engine.specs.declared.ListAnswer.{ListAnswer}
 use Rattle.engine.specs.Engine.{asked, told_list, Answers}
 
 -- an index that is right for a file, whichever of the two forms it has, leads by each number to the whole radial that the plain walk
@@ -40,7 +40,7 @@ module _ (f ns ts gs k : List ℕ) (h : List ℤ) (m : ℕ) (k' : List ℕ) (h' 
     pub hundredths : drop m h' ≡ drop m h
 
 abbrev pub EachStands : Type 0
-EachStands = (f x ns ts gs k k' : List ℕ) (h h' : List ℤ) (r : ListAnswer) (m : ℕ) → Answers f x (asked ns ts gs) k h r k' h' → told_list r ≡ answered m
+EachStands = (f x ns ts gs k k' : List ℕ) (h h' : List ℤ) (r : Result ℕ Refusal) (m : ℕ) → Answers f x (asked ns ts gs) k h r k' h' → told_list r ≡ answered m
     → AllStand f ns ts gs k h m k' h'
 
 -- a gate of a row is shown here as the row question shows it

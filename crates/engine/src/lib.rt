@@ -11,18 +11,11 @@ ghost use Rattle.index.specs.Answer.{right_for};
 ghost use Rattle.engine.specs.Engine.{asked, kind_shown, hundredths_shown, kinds_of, hundredths_of, Answers};
 
 use ask::answers;
-use ask::answers::GateAnswer;
+use gates::Told;
 use index::said;
 use radial::Radial;
 use reading::Stretch;
-
-#[derive(Clone, Copy)]
-pub enum ListAnswer {
-    // How many questions were answered.
-    Filled(usize),
-    // The refusal's number; its place is 0.
-    Refused(u32),
-}
+use refusal::Refusal;
 
 // The whole radial with a sequence number, from 1: it starts where the index says, and its own header says where it ends. The
 // header is read from its own bytes: how many there are is then known, so that the compiler copies none of them.
@@ -45,35 +38,35 @@ fn find(file: &[u8], index: &[u8], sequence: usize) -> Option<Stretch>
 }
 
 // A gate, as the plain walk answers it.
-fn gate(file: &[u8], index: &[u8], sequence: usize, t: u32, i: usize) -> GateAnswer
+fn gate(file: &[u8], index: &[u8], sequence: usize, t: u32, i: usize) -> Result<Told, Refusal>
     requires { right_for file.now index.now ≡ true }
     ensures { told_gate_answer result ≡ gate_asked file.now sequence t i }
 {
     match find(file, index, sequence) {
         Some(s) => answers::gate_at(file, s, t, i),
-        None => GateAnswer::Refused(30),
+        None => Err(Refusal::NoRadial),
     }
 }
 
 // What is shown of an answer. A refusal's number is 30, 31 or 32.
-fn kind(answer: GateAnswer) -> u8
+fn kind(answer: Result<Told, Refusal>) -> u8
     ensures { result ≡ kind_shown (told_gate_answer answer) % 256 }
 {
     match answer {
-        GateAnswer::Answered(told) => {
+        Ok(told) => {
             let gate = told.gate;
             gate.kind()
         }
-        GateAnswer::Refused(number) => (number % 256) as u8,
+        Err(refusal) => (refusal.number() % 256) as u8,
     }
 }
 
-fn hundredths_of(answer: GateAnswer) -> i32
+fn hundredths_of(answer: Result<Told, Refusal>) -> i32
     ensures { result ≡ hundredths_shown (told_gate_answer answer) }
 {
     match answer {
-        GateAnswer::Answered(told) => told.hundredths,
-        GateAnswer::Refused(_) => 0,
+        Ok(told) => told.hundredths,
+        Err(_) => 0,
     }
 }
 
@@ -100,7 +93,7 @@ fn fill(
     }
 }
 
-// Fills a kind and the hundredths for each question, of which there are as many as the shortest list has entries.
+// Fills a kind and the hundredths for each question, of which there are as many as the shortest list has entries, and says how many.
 pub fn answer(
     file: &[u8],
     index: &[u8],
@@ -109,16 +102,16 @@ pub fn answer(
     gates: &[usize],
     kinds: &mut [u8],
     hundredths: &mut [i32],
-) -> ListAnswer
+) -> Result<usize, Refusal>
     ensures { Answers file.now index.now (asked radials.now types.now gates.now) kinds.old hundredths.old result kinds.new hundredths.new }
 {
     if !index::right(file, index) {
-        return ListAnswer::Refused(59);
+        return Err(Refusal::WrongIndex);
     }
     let n = radials.len().min(types.len()).min(gates.len());
     if kinds.len().min(hundredths.len()) < n {
-        return ListAnswer::Refused(33);
+        return Err(Refusal::NoRoom);
     }
     fill(file, index, radials, types, gates, n, kinds, hundredths);
-    ListAnswer::Filled(n)
+    Ok(n)
 }

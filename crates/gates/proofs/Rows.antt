@@ -10,10 +10,11 @@ use lib.IntN.{ℤ, pos}
 use lib.ListN.{length, get_or, set, take, drop, length-set, length-map, get_or-append, get_or-map}
 use lib.Seq.{drop-cons, take-suc, take-length, length-take-le, set_at, append_snoc}
 use borrow.Author.Tests.{le-leb}
+use Rattle.std.specs.Prelude.{Result, Ok, Err}
+use Rattle.refusal.specs.declared.Refusal.{Refusal}
+use Rattle.refusal.specs.declared.Refusal.TheVariants.{NoRoom}
 use Rattle.std.proofs.lemmas.Bool.Decides.{nat_tests}
 use Rattle.gates.specs.declared.Coding.{Coding}
-use Rattle.gates.specs.declared.RowAnswer.{RowAnswer}
-use Rattle.gates.specs.declared.RowAnswer.TheVariants.{Filled, Refused}
 use Rattle.gates.specs.Gates.{kind_of}
 use Rattle.gates.specs.Rows.{told_row, shown_of, row_kinds, row_hundredths, rooms, filled, Rowed}
 use Rattle.gates.specs.Telling.{refused, answered}
@@ -63,7 +64,7 @@ module _ (c : Coding) (codes k : List ℕ) (h : List ℤ) where
   }
 
   pub begun_all : {i : ℕ} {k' : List ℕ} {h' : List ℤ} → Begun c codes k h i k' h' → i ≡ length codes → length codes ≤ length k → length codes ≤ length h
-      → Rowed c codes k h (Filled i) k' h'
+      → Rowed c codes k h (Ok i) k' h'
   begun_all {i} {k'} {h'} b e lk lh =
       let r : rooms codes k h ≡ true = rw (le-leb (length codes) (length k) lk, le-leb (length codes) (length h) lh) in
       record {
@@ -73,10 +74,10 @@ module _ (c : Coding) (codes k : List ℕ) (h : List ℤ) where
       }
 
   -- no room in a buffer: both are as they were
-  no_room : rooms codes k h ≡ false → Rowed c codes k h (Refused 33) k h
+  no_room : rooms codes k h ≡ false → Rowed c codes k h (Err NoRoom) k h
   no_room e = record { answer = rw e; kinds = rw e; hundredths = rw e }
 
-  pub short : min (length k) (length h) < length codes → Rowed c codes k h (Refused 33) k h
+  pub short : min (length k) (length h) < length codes → Rowed c codes k h (Err NoRoom) k h
   short l = no_room (grind (arith, nat_tests))
 
 -- ---- what a filled row holds
@@ -102,7 +103,7 @@ pub record IsFilled (c : Coding) (codes k : List ℕ) (h : List ℤ) (n : ℕ) (
   pub kinds : k' ≡ filled (row_kinds c codes) k
   pub hundredths : h' ≡ filled (row_hundredths c codes) h
 
-pub row-filled : {c : Coding} {codes k k' : List ℕ} {h h' : List ℤ} {r : RowAnswer} (n : ℕ) → Rowed c codes k h r k' h' → told_row r ≡ answered n → IsFilled c codes k h n k' h'
+pub row-filled : {c : Coding} {codes k k' : List ℕ} {h h' : List ℤ} {r : Result ℕ Refusal} (n : ℕ) → Rowed c codes k h r k' h' → told_row r ≡ answered n → IsFilled c codes k h n k' h'
 row-filled {c} {codes} {k} {k'} {h} {h'} {r} n p e = go (rooms codes k h) refl
   where
     go : (b : Bool) → rooms codes k h ≡ b → IsFilled c codes k h n k' h'
@@ -114,7 +115,7 @@ row-filled {c} {codes} {k} {k'} {h} {h'} {r} n p e = go (rooms codes k h) refl
         let here : answered n ≡ refused 33 0 = sym e ∙ rw q at p.answer in
         absurd (let z : ◌≡◌ {A = ℕ} 0 1 = cc in omega arith)
 
-pub row_shows : {c : Coding} {codes k k' : List ℕ} {h h' : List ℤ} {r : RowAnswer} (n : ℕ) → Rowed c codes k h r k' h' → told_row r ≡ answered n → Shows c codes n k' h'
+pub row_shows : {c : Coding} {codes k k' : List ℕ} {h h' : List ℤ} {r : Result ℕ Refusal} (n : ℕ) → Rowed c codes k h r k' h' → told_row r ≡ answered n → Shows c codes n k' h'
 row_shows {c} {codes} {k} {k'} {h} {h'} n p e =
     let w = row-filled n p e in
     let all = w.all in
@@ -125,6 +126,6 @@ row_shows {c} {codes} {k} {k'} {h} {h'} n p e =
     }
 
 -- two results that are allowed for one input are one
-pub row_one : {c : Coding} {codes k k' k'' : List ℕ} {h h' h'' : List ℤ} {r s : RowAnswer} → Rowed c codes k h r k' h' → Rowed c codes k h s k'' h''
+pub row_one : {c : Coding} {codes k k' k'' : List ℕ} {h h' h'' : List ℤ} {r s : Result ℕ Refusal} → Rowed c codes k h r k' h' → Rowed c codes k h s k'' h''
     → (r ≡ s) × (k' ≡ k'') × (h' ≡ h'')
 row_one {r = r} {s = s} p q = (told-row-one r s (p.answer ∙ sym q.answer), p.kinds ∙ sym q.kinds, p.hundredths ∙ sym q.hundredths)

@@ -5,10 +5,11 @@ use mathlib.Core.List.{[], ◌∷◌}
 use mathlib.Mathlib.Logic.Function.Defs.{LeftInverse-Injective}
 use Prim.Native.Nat.{ℕ}
 use lib.ListN.{get_or}
+use Rattle.std.specs.Prelude.{Result, Ok, Err}
+use Rattle.refusal.specs.declared.Refusal.{Refusal}
+use Rattle.refusal.proofs.Numbers.{refusal_found, refusal_back}
 use Rattle.gates.specs.declared.Gate.{Gate}
 use Rattle.gates.specs.declared.Gate.TheVariants.{BelowThreshold, RangeFolded, NotScanned, Unknown, Reserved, Value, Class}
-use Rattle.gates.specs.declared.RowAnswer.{RowAnswer}
-use Rattle.gates.specs.declared.RowAnswer.TheVariants.{Filled, Refused}
 use Rattle.gates.specs.declared.Told.{Told}
 use Rattle.gates.specs.Gates.{Carried, nothing, its-float, its-code, told_gate, Values, values_of}
 use Rattle.gates.specs.Rows.{told_row}
@@ -44,14 +45,14 @@ values_one t u e =
       hundredths = (e i).hundredths;
     }
 
-row_found : Telling ℕ → RowAnswer
-row_found (answered n) = Filled n
-row_found (refused number place) = Refused number
+row_found : Telling ℕ → Result ℕ Refusal
+row_found (answered n) = Ok n
+row_found (refused number place) = Err (refusal_found number)
 
-row_back : (r : RowAnswer) → row_found (told_row r) ≡ r
+row_back : (r : Result ℕ Refusal) → row_found (told_row r) ≡ r
 unfolding row_found
-row_back (Filled n) = refl
-row_back (Refused number) = refl
+row_back (Ok n) = refl
+row_back (Err e) = ap Err (refusal_back e)
 
-pub told-row-one : (r s : RowAnswer) → told_row r ≡ told_row s → r ≡ s
+pub told-row-one : (r s : Result ℕ Refusal) → told_row r ≡ told_row s → r ≡ s
 told-row-one = LeftInverse-Injective row_found told_row row_back

@@ -8,6 +8,8 @@ ghost use Rattle.gates.specs.Codes.{codes_of};
 ghost use Rattle.gates.specs.Rows.{Tabled, Rowed};
 ghost use Rattle.gates.specs.Counting.{counts_of, summed, total_of};
 
+use refusal::Refusal;
+
 // What a moment's header says of its codes. A scale and an offset that the header's rules allow fit 16 bits, as codes
 // do, so every whole number here fits its type.
 #[derive(Clone, Copy)]
@@ -184,12 +186,6 @@ pub fn code_at(bytes: &[u8], bin: u16, i: usize) -> u16
 
 // ---- a row
 
-#[derive(Clone, Copy)]
-pub enum RowAnswer {
-    Filled(usize),
-    Refused(u32),
-}
-
 // What a row shows for each one-byte code: a division for each of 256 codes, and none for a gate.
 fn table(c: Coding) -> [i32; 256]
     ensures { Tabled c result }
@@ -202,7 +198,12 @@ fn table(c: Coding) -> [i32; 256]
 }
 
 // A row of one-byte codes, where there is room.
-fn row_of_bytes(bytes: &[u8], c: Coding, kinds: &mut [u8], hundredths: &mut [i32]) -> RowAnswer
+fn row_of_bytes(
+    bytes: &[u8],
+    c: Coding,
+    kinds: &mut [u8],
+    hundredths: &mut [i32],
+) -> Result<usize, Refusal>
     requires { (length bytes.now ≤ length kinds.old) × (length bytes.now ≤ length hundredths.old) }
     ensures { Rowed c bytes.now kinds.old hundredths.old result kinds.new hundredths.new }
 {
@@ -211,7 +212,7 @@ fn row_of_bytes(bytes: &[u8], c: Coding, kinds: &mut [u8], hundredths: &mut [i32
         kinds[i] = gate_of(c, *code as u16).kind();
         hundredths[i] = t[*code as usize];
     }
-    RowAnswer::Filled(bytes.len())
+    Ok(bytes.len())
 }
 
 // A row of n codes of either width, where there is room.
@@ -222,7 +223,7 @@ fn row_of_codes(
     c: Coding,
     kinds: &mut [u8],
     hundredths: &mut [i32],
-) -> RowAnswer
+) -> Result<usize, Refusal>
     requires { (n ≡ length (codes_of bin bytes.now)) × (n ≤ length kinds.old) × (n ≤ length hundredths.old) }
     ensures { Rowed c (codes_of bin bytes.now) kinds.old hundredths.old result kinds.new hundredths.new }
 {
@@ -231,16 +232,22 @@ fn row_of_codes(
         kinds[i] = told.gate.kind();
         hundredths[i] = told.hundredths;
     }
-    RowAnswer::Filled(n)
+    Ok(n)
 }
 
-// Fills a kind and the hundredths for each gate, where both buffers are long enough.
-pub fn row(bytes: &[u8], bin: u16, c: Coding, kinds: &mut [u8], hundredths: &mut [i32]) -> RowAnswer
+// Fills a kind and the hundredths for each gate, where both buffers are long enough, and says how many gates there are.
+pub fn row(
+    bytes: &[u8],
+    bin: u16,
+    c: Coding,
+    kinds: &mut [u8],
+    hundredths: &mut [i32],
+) -> Result<usize, Refusal>
     ensures { Rowed c (codes_of bin bytes.now) kinds.old hundredths.old result kinds.new hundredths.new }
 {
     let n = gates_in(bytes, bin);
     if kinds.len().min(hundredths.len()) < n {
-        RowAnswer::Refused(33)
+        Err(Refusal::NoRoom)
     } else if bin == 1 {
         row_of_bytes(bytes, c, kinds, hundredths)
     } else {

@@ -1,8 +1,8 @@
 // The gates of a volume, a line for each radial and each type that an old radial has: what is told of each gate, or that there is no
 // such moment.
 use ask::answers;
-use ask::answers::GateAnswer;
 use gates::{Gate, Told};
+use refusal::Refusal;
 use std::io;
 
 // Of a value its exact fraction too, not reduced.
@@ -14,10 +14,10 @@ fn print_told(out: &impl Print, told: Told) -> io::Result<()> {
     }
 }
 
-fn print_gate(out: &impl Print, answer: GateAnswer) -> io::Result<()> {
+fn print_gate(out: &impl Print, answer: Result<Told, Refusal>) -> io::Result<()> {
     match answer {
-        GateAnswer::Answered(told) => print_told(out, told),
-        GateAnswer::Refused(n) => print!(out; " {n}"),
+        Ok(told) => print_told(out, told),
+        Err(refusal) => print!(out; " {}", refusal.number()),
     }
 }
 

@@ -3,13 +3,14 @@
 use Prim.Native.Nat.{ℕ}
 use mathlib.Core.Bool.{true, false}
 use mathlib.Core.List.{List, [], ◌∷◌}
-use mathlib.Core.Path.{◌≡◌, refl, ap₂}
+use mathlib.Core.Path.{◌≡◌, refl, ap, ap₂}
 use borrow.Author.Tests.{eq-eqb, eqb-true}
 use lib.Dec.{eqb}
+use Rattle.std.specs.Prelude.{Result, Ok, Err}
+use Rattle.refusal.specs.declared.Refusal.{Refusal}
+use Rattle.refusal.proofs.Numbers.{number-one}
 use Rattle.le.proofs.Tests.{both, fails}
 use Rattle.reading.specs.Reading.{told}
-use Rattle.index.specs.declared.Answer.{Answer}
-use Rattle.index.specs.declared.Answer.TheVariants.{Written, Refused}
 use Rattle.index.specs.Index.{index_of}
 use Rattle.index.specs.Answer.{same, complete, told_index, right_for}
 
@@ -44,9 +45,9 @@ unfolding complete right_for
 right-when f x t e = rw (is_same (told f) (0 ∷ []) t, is_same (index_of f) x e)
 
 -- an answer's numbers are those of no other answer
-pub told-once : (a b : Answer) → told_index a ≡ told_index b → a ≡ b
+pub told-once : (a b : Result ℕ Refusal) → told_index a ≡ told_index b → a ≡ b
 unfolding told_index
-told-once (Written m) (Written n) e = cc
-told-once (Written m) (Refused n) e = cc
-told-once (Refused m) (Written n) e = cc
-told-once (Refused m) (Refused n) e = cc
+told-once (Ok m) (Ok n) e = cc
+told-once (Ok m) (Err n) e = cc
+told-once (Err m) (Ok n) e = cc
+told-once (Err m) (Err n) e = ap Err (number-one m n cc)

@@ -7,19 +7,12 @@ ghost use Rattle.index.specs.Making.{layout_for, layout_of};
 
 use generic::Generic;
 use reading::Verdict;
+use refusal::Refusal;
 use site::Site;
 use task::Task;
 
 mod making;
 pub mod said;
-
-#[derive(Clone, Copy)]
-pub enum Answer {
-    // The index's length.
-    Written(usize),
-    // The refusal's number; its place is 0.
-    Refused(u32),
-}
 
 // What there is to put into a room, or to find in an index.
 #[derive(Clone, Copy)]
@@ -67,8 +60,8 @@ fn layout_of(file: &[u8], len: usize) -> Layout
     }
 }
 
-// Writes the index of a complete file at the front of a room that takes it.
-pub fn write(file: &[u8], room: &mut [u8]) -> Answer
+// Writes the index of a complete file at the front of a room that takes it, and says how long it is.
+pub fn write(file: &[u8], room: &mut [u8]) -> Result<usize, Refusal>
     ensures { Writes file.now room.old result room.new }
 {
     match layout_of(file, room.len()) {
@@ -78,10 +71,10 @@ pub fn write(file: &[u8], room: &mut [u8]) -> Answer
             size,
         } => {
             making::put(file, room, cuts, radials);
-            Answer::Written(size)
+            Ok(size)
         }
-        Layout::Short => Answer::Refused(33),
-        Layout::Unfinished => Answer::Refused(36),
+        Layout::Short => Err(Refusal::NoRoom),
+        Layout::Unfinished => Err(Refusal::NotComplete),
     }
 }
 

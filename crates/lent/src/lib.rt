@@ -7,7 +7,7 @@ ghost use Rattle.ask.specs.Tallies.{tally_answer};
 ghost use Rattle.lent.specs.Lending.{lent_of};
 
 use ask::tallies;
-use ask::tallies::{Tally, TallyAnswer};
+use ask::tallies::Tally;
 use wedge::Wedge;
 
 // What the caller has afterwards: the number, 0 where there is a tally, and the contents of the record.
@@ -22,8 +22,11 @@ fn tally_told(old: Tally, file: &[u8], cut: u32, t: u32, wedge: Wedge) -> Lent
     ensures { result ≡ lent_of old (tally_answer file.now cut t wedge) }
 {
     match tallies::tally_of(file, cut, t, wedge) {
-        TallyAnswer::Counted(tally) => Lent { number: 0, tally },
-        TallyAnswer::Refused(number) => Lent { number, tally: old },
+        Ok(tally) => Lent { number: 0, tally },
+        Err(refusal) => Lent {
+            number: refusal.number(),
+            tally: old,
+        },
     }
 }
 

@@ -8,14 +8,14 @@ use lib.Dec.{eqb, leb}
 use lib.IntN.{ℤ}
 use lib.ListN.{length, take, drop}
 use lib.Seq.{drop-drop}
-use Rattle.std.specs.Prelude.{Option, Some, None}
+use Rattle.std.specs.Prelude.{Option, Some, None, Result}
+use Rattle.refusal.specs.declared.Refusal.{Refusal}
 use Rattle.le.specs.Le.{le, part}
 use Rattle.le.proofs.Laws.{le-own, part-drop, part-part}
 use Rattle.moment.specs.declared.Moment.{Moment}
 use Rattle.moment.specs.Moment.{moment_of, moment_at}
 use Rattle.radial.specs.declared.Radial.{Radial}
 use Rattle.radial.specs.Radial.{radial_of, radial_at}
-use Rattle.gates.specs.declared.RowAnswer.{RowAnswer}
 use Rattle.gates.specs.Codes.{codes_of}
 use Rattle.gates.specs.Rows.{Rowed}
 use Rattle.moments.specs.Moments.{after, moments_from, moments_of, find_in, data_at}
@@ -120,7 +120,7 @@ module _ (f g : List ℕ) (n gap : ℕ) (s u : Stretch) (here : nth (stretches f
   answer-alike a none one t =
       rw (here, there) (told (bytes_of f s) (bytes_of g u) long same (λ x. a g (in_stretch u x)) (λ x. a f (in_stretch s x)) none one t)
 
-  row-alike : (t : ℕ) (k k' : List ℕ) (h h' : List ℤ) (r : RowAnswer) → RowAsked g n t k h r k' h' ≡ RowAsked f n t k h r k' h'
+  row-alike : (t : ℕ) (k k' : List ℕ) (h h' : List ℤ) (r : Result ℕ Refusal) → RowAsked g n t k h r k' h' ≡ RowAsked f n t k h r k' h'
   unfolding RowTold
   row-alike t k k' h h' r =
       answer-alike (λ l w. RowTold l w k h r k' h') refl (λ p m d. ap₂ (λ x l. Rowed (coding_of x) (codes_of x.bin_length l) k h r k' h') m d) t

@@ -1,8 +1,8 @@
 -- What is answered of a kept radial in a mended volume (document 02, #107): what is answered of it in the given file, but for its place
 -- and a changed state.
-use Rattle.std.specs.Prelude.{ℕ, ◌+◌, List, ◌≡◌, ℤ}
+use Rattle.std.specs.Prelude.{ℕ, ◌+◌, List, ◌≡◌, ℤ, Result}
+use Rattle.refusal.specs.declared.Refusal.{Refusal}
 use Rattle.radial.specs.declared.Radial.{Radial}
-use Rattle.gates.specs.declared.RowAnswer.{RowAnswer}
 use Rattle.ask.specs.Answers.{radial_of_file, moment_told, data_told}
 use Rattle.ask.specs.Growth.{gate_asked, RowAsked}
 use Rattle.ask.specs.Places.{where_is}
@@ -33,5 +33,5 @@ pub record Alike (f g : List ℕ) (n gap x : ℕ) : Type 0 where
   pub moment : (t : ℕ) → moment_told g (where_is g n t) ≡ moment_told f (where_is f n t)
   pub bytes : (t : ℕ) → data_told g (where_is g n t) ≡ data_told f (where_is f n t)
   pub gate : (t i : ℕ) → gate_asked g n t i ≡ gate_asked f n t i
-  pub row : (t : ℕ) (k k' : List ℕ) (h h' : List ℤ) (r : RowAnswer)
+  pub row : (t : ℕ) (k k' : List ℕ) (h h' : List ℤ) (r : Result ℕ Refusal)
       → (RowAsked g n t k h r k' h' → RowAsked f n t k h r k' h') × (RowAsked f n t k h r k' h' → RowAsked g n t k h r k' h')

@@ -1,5 +1,7 @@
 -- A broken volume closed (document 02, #107): the file's own bytes, with two fields changed and two stretches left out.
-use Rattle.std.specs.Prelude.{ℕ, ◌+◌, ◌-◌, ◌≤◌, cond, List, [], ◌∷◌, ◌++◌, ◌≡◌, eqb, leb, length, take, drop, Option, Some, None}
+use Rattle.std.specs.Prelude.{ℕ, ◌+◌, ◌-◌, ◌≤◌, cond, List, [], ◌∷◌, ◌++◌, ◌≡◌, eqb, leb, length, take, drop, Option, Some, None, Result, Ok, Err}
+use Rattle.refusal.specs.declared.Refusal.{Refusal}
+use Rattle.refusal.specs.Refusal.{number_of}
 use Rattle.le.specs.Le.{bytes, patch, stored}
 use Rattle.rules.specs.States.{closing}
 use Rattle.cut.specs.Cut.{cut_size}
@@ -13,8 +15,6 @@ use Rattle.volume.specs.InPlace.{task_block}
 use Rattle.mend.specs.declared.report.Field.{Field}
 use Rattle.mend.specs.declared.report.Field.TheVariants.{Same, Changed}
 use Rattle.mend.specs.declared.report.Report.{Report}
-use Rattle.mend.specs.declared.Mended.{Mended}
-use Rattle.mend.specs.declared.Mended.TheVariants.{Written, Refused}
 use Rattle.mend.specs.Kept.{last_kept}
 
 -- ---- the two fields; s is the last radial that is kept
@@ -94,9 +94,9 @@ said size r =
       to = r.to;
     }
 
-abbrev pub told_mended : Mended → Telling Said
-told_mended (Written size r) = answered (said size r)
-told_mended (Refused number) = refused number 0
+abbrev pub told_mended : Result (ℕ × Report) Refusal → Telling Said
+told_mended (Ok (size, r)) = answered (said size r)
+told_mended (Err e) = refused (number_of e) 0
 
 -- 54 where no radial is kept, then 33 where the room of n bytes is too short, both at place 0
 unfoldable pub answer_by : List ℕ → ℕ → Option Stretch → Telling Said
@@ -114,7 +114,7 @@ answer_of f n = answer_by f n (last_kept f)
 abbrev pub room_of : List ℕ → List ℕ → List ℕ
 room_of f room = room_by f room (last_kept f)
 
-pub record Mends (f before : List ℕ) (r : Mended) (after : List ℕ) : Type 0 where
+pub record Mends (f before : List ℕ) (r : Result (ℕ × Report) Refusal) (after : List ℕ) : Type 0 where
   pub answer : told_mended r ≡ answer_of f (length before)
   pub room : after ≡ room_of f before
 

@@ -13,27 +13,17 @@ use crate::keep::last_kept;
 use crate::lay::{lay, size_of};
 use crate::report::{Report, report_of};
 use reading::Stretch;
+use refusal::Refusal;
 
-#[derive(Clone, Copy)]
-pub enum Mended {
-    // The length of the volume at the front of the room, and what was changed and left out.
-    Written(usize, Report),
-    // The refusal's number; its place is 0.
-    Refused(u32),
-}
-
-pub fn mend(file: &[u8], room: &mut [u8]) -> Mended
+// The length of the volume at the front of the room, and what was changed and left out.
+pub fn mend(file: &[u8], room: &mut [u8]) -> Result<(usize, Report), Refusal>
     ensures { Mends file.now room.old result room.new }
 {
-    match last_kept(file) {
-        Some(s) => {
-            let size = size_of(file, s);
-            if room.len() < size {
-                return Mended::Refused(33);
-            }
-            lay(file, s, room);
-            Mended::Written(size, report_of(file, s))
-        }
-        None => Mended::Refused(54),
+    let s = last_kept(file).ok_or(Refusal::NothingWhole)?;
+    let size = size_of(file, s);
+    if room.len() < size {
+        return Err(Refusal::NoRoom);
     }
+    lay(file, s, room);
+    Ok((size, report_of(file, s)))
 }

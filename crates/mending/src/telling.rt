@@ -1,8 +1,8 @@
 // What is printed of a mended file in one line: the report's numbers, what reading tells of the written volume, and the checksum of all of
 // the room, so that no byte is stored unseen.
-use mend::Mended;
 use mend::report::{Field, Report};
 use printing::{first, print_verdict, sum};
+use refusal::Refusal;
 use std::io;
 
 // Nothing of a field that is not named.
@@ -23,15 +23,19 @@ fn print_report(out: &impl Print, r: Report) -> io::Result<()> {
 }
 
 // The volume is the first bytes of the room.
-pub(crate) fn print_mended(out: &impl Print, room: &[u8], mended: Mended) -> io::Result<()> {
+pub(crate) fn print_mended(
+    out: &impl Print,
+    room: &[u8],
+    mended: Result<(usize, Report), Refusal>,
+) -> io::Result<()> {
     match mended {
-        Mended::Written(size, report) => {
+        Ok((size, report)) => {
             let r = reading::read(first(room, size));
             print!(out; "written {size}")?;
             print_report(out, report)?;
             print_verdict(out, r.verdict)?;
             println!(out; " {} {}", r.radials, sum(room))
         }
-        Mended::Refused(n) => println!(out; "refused {n} 0 {}", sum(room)),
+        Err(refusal) => println!(out; "refused {} 0 {}", refusal.number(), sum(room)),
     }
 }

@@ -1,8 +1,8 @@
 // What is printed of a mended file for the command line: the report in words, the volume's length, and behind that line its bytes as they
 // are; or a refusal in words.
-use mend::Mended;
 use mend::report::{Field, Report};
 use printing::{first, print_volume};
+use refusal::Refusal;
 use std::io;
 
 // Nothing of a field that is not named.
@@ -48,23 +48,27 @@ fn say_report(out: &impl Print, r: Report) -> io::Result<()> {
     }
 }
 
-fn say_refusal(out: &impl Print, n: u32) -> io::Result<()> {
-    match n {
-        54 => println!(out; "no cut has two whole radials"),
+fn say_refusal(out: &impl Print, refusal: Refusal) -> io::Result<()> {
+    match refusal {
+        Refusal::NothingWhole => println!(out; "no cut has two whole radials"),
         _ => println!(out; "the room is too short for the volume"),
     }
 }
 
 // The volume is the first bytes of the room.
-pub(crate) fn say_mended(out: &impl Print, room: &[u8], mended: Mended) -> io::Result<()> {
+pub(crate) fn say_mended(
+    out: &impl Print,
+    room: &[u8],
+    mended: Result<(usize, Report), Refusal>,
+) -> io::Result<()> {
     match mended {
-        Mended::Written(size, report) => {
+        Ok((size, report)) => {
             say_report(out, report)?;
             print_volume(out, first(room, size))
         }
-        Mended::Refused(n) => {
-            println!(out; "refused {n} 0")?;
-            say_refusal(out, n)
+        Err(refusal) => {
+            println!(out; "refused {} 0", refusal.number())?;
+            say_refusal(out, refusal)
         }
     }
 }

@@ -8,14 +8,14 @@ use mathlib.Core.Path.{◌≡◌, refl, sym, ap, ap₂, transport, ◌∙◌}
 use lib.Dec.{eqb}
 use lib.IntN.{ℤ}
 use lib.ListN.{length}
-use Rattle.std.specs.Prelude.{Option, Some, None}
+use Rattle.std.specs.Prelude.{Option, Some, None, Result}
+use Rattle.refusal.specs.declared.Refusal.{Refusal}
 use Rattle.rules.specs.Masks.{bit}
 use Rattle.wedge.specs.declared.Wedge.{Wedge}
 use Rattle.wedge.specs.Wedge.{in_wedge}
 use Rattle.moment.specs.Moment.{moment_at}
 use Rattle.radial.specs.declared.Radial.{Radial}
 use Rattle.radial.specs.Radial.{radial_at}
-use Rattle.gates.specs.declared.RowAnswer.{RowAnswer}
 use Rattle.gates.specs.Codes.{codes_of}
 use Rattle.gates.specs.Counting.{counts_of}
 use Rattle.gates.specs.Gates.{kind_of}
@@ -65,7 +65,7 @@ module _ (f g : List ℕ) (wanted : ℕ) where
       (seen-kept wanted b k.is (bytes_of g u) k.own t m.is (bytes_of f s) m.own e)
 
   -- and so is what a row promises
-  row_same : {x y : Option Stretch} → Both x y → (t : ℕ) → bit wanted t ≡ true → (k k' : List ℕ) (h h' : List ℤ) (r : RowAnswer)
+  row_same : {x y : Option Stretch} → Both x y → (t : ℕ) → bit wanted t ≡ true → (k k' : List ℕ) (h h' : List ℤ) (r : Result ℕ Refusal)
       → RowTold g (in_found g y t) k h r k' h' ≡ RowTold f (in_found f x t) k h r k' h'
   unfolding RowTold
   row_same p t e k k' h h' r =

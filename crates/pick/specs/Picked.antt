@@ -1,10 +1,10 @@
 -- What picking makes of a complete volume (document 02, #111): a complete volume, with every answer on a wanted type and none on another.
-use Rattle.std.specs.Prelude.{ℕ, ◌-◌, ◌^◌, ◌≤◌, ◌<◌, true, false, cond, List, ◌↔◌, ◌⊎◌, ◌≡◌, ℤ, length, take, Some, None}
+use Rattle.std.specs.Prelude.{ℕ, ◌-◌, ◌^◌, ◌≤◌, ◌<◌, true, false, cond, List, ◌↔◌, ◌⊎◌, ◌≡◌, ℤ, length, take, Some, None, Result}
+use Rattle.refusal.specs.declared.Refusal.{Refusal}
 use Rattle.std.specs.Int.Bits.{bit_and}
 use Rattle.rules.specs.Masks.{bit}
 use Rattle.wedge.specs.declared.Wedge.{Wedge}
 use Rattle.wedge.specs.Wedge.{wedge_ok}
-use Rattle.gates.specs.declared.RowAnswer.{RowAnswer}
 use Rattle.gates.specs.Telling.{refused}
 use Rattle.walk.specs.Due.{cut_place}
 use Rattle.reading.specs.declared.Stretch.{Stretch}
@@ -55,12 +55,12 @@ pub record Kept (f g : List ℕ) (wanted n : ℕ) : Type 0 where
   pub moment : (t : ℕ) → bit wanted t ≡ true → moment_told g (where_is g n t) ≡ moment_told f (where_is f n t)
   pub bytes : (t : ℕ) → bit wanted t ≡ true → data_told g (where_is g n t) ≡ data_told f (where_is f n t)
   pub gate : (t i : ℕ) → bit wanted t ≡ true → gate_asked g n t i ≡ gate_asked f n t i
-  pub row : (t : ℕ) → bit wanted t ≡ true → (k k' : List ℕ) (h h' : List ℤ) (r : RowAnswer) → RowAsked g n t k h r k' h' ↔ RowAsked f n t k h r k' h'
+  pub row : (t : ℕ) → bit wanted t ≡ true → (k k' : List ℕ) (h h' : List ℤ) (r : Result ℕ Refusal) → RowAsked g n t k h r k' h' ↔ RowAsked f n t k h r k' h'
   -- any other type: 31, where there is such a radial
   pub no-moment : (t : ℕ) → bit wanted t ≡ false → (radial_of_file f n).number ≡ 0 → where_is g n t ≡ NoMoment
   pub moment-31 : (t : ℕ) → bit wanted t ≡ false → (radial_of_file f n).number ≡ 0 → (moment_told g (where_is g n t)).number ≡ 31
   pub gate-31 : (t i : ℕ) → bit wanted t ≡ false → (radial_of_file f n).number ≡ 0 → gate_asked g n t i ≡ refused 31 0
-  pub row-31 : (t : ℕ) → bit wanted t ≡ false → (radial_of_file f n).number ≡ 0 → (k k' : List ℕ) (h h' : List ℤ) (r : RowAnswer) → RowAsked g n t k h r k' h' ↔ Unfilled 31 k h r k' h'
+  pub row-31 : (t : ℕ) → bit wanted t ≡ false → (radial_of_file f n).number ≡ 0 → (k k' : List ℕ) (h h' : List ℤ) (r : Result ℕ Refusal) → RowAsked g n t k h r k' h' ↔ Unfilled 31 k h r k' h'
 
 -- ---- the volume
 

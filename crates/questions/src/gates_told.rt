@@ -1,8 +1,8 @@
 // Gates: each printed for itself, or all of a moment in one checksum.
 use crate::checksum::{mix, mix_signed};
 use ask::answers;
-use ask::answers::GateAnswer;
 use gates::{Coding, Gate, Told};
+use refusal::Refusal;
 use std::io;
 
 // The bits of a value's float. No value is a NaN; the test saves the proof of that.
@@ -34,10 +34,10 @@ fn print_told(out: &impl Print, told: Told) -> io::Result<()> {
     )
 }
 
-fn print_answer(out: &impl Print, answer: GateAnswer) -> io::Result<()> {
+fn print_answer(out: &impl Print, answer: Result<Told, Refusal>) -> io::Result<()> {
     match answer {
-        GateAnswer::Answered(told) => print_told(out, told),
-        GateAnswer::Refused(n) => print!(out; " no{n}"),
+        Ok(told) => print_told(out, told),
+        Err(refusal) => print!(out; " no{}", refusal.number()),
     }
 }
 
@@ -48,7 +48,7 @@ pub(crate) fn print_each(out: &impl Print, file: &[u8], sequence: u32, t: u32) -
         print!(out; "gate {sequence} {t} {i}:")?;
         print_answer(out, answer)?;
         println!(out)?;
-        if matches!(answer, GateAnswer::Refused(_)) {
+        if answer.is_err() {
             break;
         }
     }
@@ -63,10 +63,10 @@ fn mix_told(sum: u64, told: Told) -> u64 {
     mix(d, carried(told.gate))
 }
 
-fn mix_gate(sum: u64, answer: GateAnswer) -> u64 {
+fn mix_gate(sum: u64, answer: Result<Told, Refusal>) -> u64 {
     match answer {
-        GateAnswer::Answered(told) => mix_told(sum, told),
-        GateAnswer::Refused(n) => mix(sum, u64::from(n)),
+        Ok(told) => mix_told(sum, told),
+        Err(refusal) => mix(sum, u64::from(refusal.number())),
     }
 }
 
@@ -78,10 +78,10 @@ fn sum(file: &[u8], sequence: u32, t: u32) -> u64 {
     )
 }
 
-fn print_refusal(out: &impl Print, answer: GateAnswer) -> io::Result<()> {
+fn print_refusal(out: &impl Print, answer: Result<Told, Refusal>) -> io::Result<()> {
     match answer {
-        GateAnswer::Answered(_) => print!(out; "yes"),
-        GateAnswer::Refused(n) => print!(out; "no{n}"),
+        Ok(_) => print!(out; "yes"),
+        Err(refusal) => print!(out; "no{}", refusal.number()),
     }
 }
 

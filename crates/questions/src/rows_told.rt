@@ -1,13 +1,13 @@
 // Rows, in rooms whose places hold a mark before.
 use crate::checksum::{mix, mix_signed};
 use ask::answers;
-use gates::RowAnswer;
+use refusal::Refusal;
 use std::io;
 
-fn print_answer(out: &impl Print, answer: RowAnswer) -> io::Result<()> {
+fn print_answer(out: &impl Print, answer: Result<usize, Refusal>) -> io::Result<()> {
     match answer {
-        RowAnswer::Filled(n) => print!(out; "{n}"),
-        RowAnswer::Refused(n) => print!(out; "no{n}"),
+        Ok(n) => print!(out; "{n}"),
+        Err(refusal) => print!(out; "no{}", refusal.number()),
     }
 }
 

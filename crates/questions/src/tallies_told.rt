@@ -1,6 +1,6 @@
 // Tallies: each printed, and asked once more in a lent record that holds marks before; of a cut and type in every wedge that is asked.
 use ask::tallies;
-use ask::tallies::{Sums, Tally, TallyAnswer};
+use ask::tallies::{Sums, Tally};
 use gates::Counts;
 use printing::print_counts;
 use std::io;
@@ -60,11 +60,12 @@ fn fields(tally: Tally) -> [u64; 11] {
 // Says so where the lent record does not end as it should: with the tally, or after a refusal with its marks.
 fn print_in(out: &impl Print, file: &[u8], cut: u32, t: u32, wedge: Wedge) -> io::Result<()> {
     let (number, tally) = match tallies::tally_of(file, cut, t, wedge) {
-        TallyAnswer::Counted(tally) => {
+        Ok(tally) => {
             print_counted(out, tally)?;
             (0, tally)
         }
-        TallyAnswer::Refused(n) => {
+        Err(refusal) => {
+            let n = refusal.number();
             print!(out; "no{n}")?;
             (n, marked())
         }

@@ -1,13 +1,13 @@
 // What is told of a gate, in words.
 use ask::answers;
-use ask::answers::GateAnswer;
-use gates::Gate;
+use gates::{Gate, Told};
+use refusal::Refusal;
 use std::io;
 
-fn say(out: &impl Print, answer: GateAnswer) -> io::Result<()> {
+fn say(out: &impl Print, answer: Result<Told, Refusal>) -> io::Result<()> {
     match answer {
-        GateAnswer::Answered(told) => say_gate(out, told.gate),
-        GateAnswer::Refused(number) => say_refusal(out, number),
+        Ok(told) => say_gate(out, told.gate),
+        Err(refusal) => say_refusal(out, refusal),
     }
 }
 
@@ -23,10 +23,10 @@ fn say_gate(out: &impl Print, gate: Gate) -> io::Result<()> {
     }
 }
 
-fn say_refusal(out: &impl Print, number: u32) -> io::Result<()> {
-    match number {
-        30 => print!(out; " nothing yet: no such whole radial"),
-        31 => print!(out; " no such moment in the radial"),
+fn say_refusal(out: &impl Print, refusal: Refusal) -> io::Result<()> {
+    match refusal {
+        Refusal::NoRadial => print!(out; " nothing yet: no such whole radial"),
+        Refusal::NoMoment => print!(out; " no such moment in the radial"),
         _ => print!(out; " no such gate in the moment"),
     }
 }

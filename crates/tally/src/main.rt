@@ -7,9 +7,10 @@
 ghost use Rattle.std.specs.Prelude.{◌≡◌, length};
 
 use ask::tallies;
-use ask::tallies::{Tally, TallyAnswer};
+use ask::tallies::Tally;
 use printing::{bare_verdict, behind, first, print_counts, read_full};
 use reading::Verdict;
+use refusal::Refusal;
 use std::io;
 use wedge::Wedge;
 
@@ -26,19 +27,21 @@ fn print_tally(out: &impl Print, v: Verdict, t: Tally) -> io::Result<()> {
     println!(out)
 }
 
-fn say_refusal(out: &impl Print, n: u32) -> io::Result<()> {
-    match n {
-        61 => println!(out;
+fn say_refusal(out: &impl Print, refusal: Refusal) -> io::Result<()> {
+    match refusal {
+        Refusal::NoWedge => println!(out;
             "the start and the end of a wedge are 0 to 35999 hundredths of a degree"
         ),
-        30 => println!(out; "nothing yet: the block of that cut is not among the accepted ones"),
+        Refusal::NoRadial => println!(out;
+            "nothing yet: the block of that cut is not among the accepted ones"
+        ),
         _ => println!(out; "no whole radial of that cut in that wedge has that type"),
     }
 }
 
-fn print_refused(out: &impl Print, n: u32) -> io::Result<()> {
-    println!(out; "refused {n} 0")?;
-    say_refusal(out, n)
+fn print_refused(out: &impl Print, refusal: Refusal) -> io::Result<()> {
+    println!(out; "refused {} 0", refusal.number())?;
+    say_refusal(out, refusal)
 }
 
 fn answer(out: &impl Print, question: &[u8], volume: &[u8]) -> io::Result<()> {
@@ -52,8 +55,8 @@ fn answer(out: &impl Print, question: &[u8], volume: &[u8]) -> io::Result<()> {
         le::u32_at(question, 4),
         wedge,
     ) {
-        TallyAnswer::Counted(t) => print_tally(out, reading::read(volume).verdict, t),
-        TallyAnswer::Refused(n) => print_refused(out, n),
+        Ok(t) => print_tally(out, reading::read(volume).verdict, t),
+        Err(refusal) => print_refused(out, refusal),
     }
 }
 

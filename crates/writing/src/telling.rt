@@ -1,5 +1,6 @@
 // What the program prints.
 use printing::sum;
+use refusal::Refusal;
 use std::{fmt, io};
 use walk::due::Walk;
 use writer::order::{Answer, Put};
@@ -24,14 +25,14 @@ impl fmt::Display for Hex<'_> {
 // The answer to an index: one that was written is told by its length.
 pub(crate) fn print_index_answer<F: FnOnce(usize) -> io::Result<()>>(
     out: &impl Print,
-    answer: index::Answer,
+    answer: Result<usize, Refusal>,
     written: F,
 ) -> io::Result<()>
     requires { F.IsAlwaysCallable written }
 {
     match answer {
-        index::Answer::Written(n) => written(n),
-        index::Answer::Refused(n) => print!(out; " refused {n}"),
+        Ok(n) => written(n),
+        Err(refusal) => print!(out; " refused {}", refusal.number()),
     }
 }
 

@@ -1,4 +1,6 @@
-use Rattle.decoded.specs.Decoded.{check_told}
+use mathlib.Core.Path.{ap}
+use Rattle.gates.specs.Telling.{answered}
+use Rattle.decoded.specs.Decoded.{Checked, check_told}
 use Rattle.decoded.proofs.check.Goals as goal
 
 pub returns-in-At : goal.returns-in-At
@@ -12,7 +14,7 @@ returns-in-At c =
       ← c.data.ensures,
       ← c.coding.ensures,
     )
-    c.compare.ensures
+    (ap (λ (x : Checked). answered x) c.compare.ensures)
 
 pub returns-in-NoRadial : goal.returns-in-NoRadial
 unfolding check_told

@@ -4,10 +4,10 @@ use mir.Facts.{to_z-of_z}
 use Rattle.engine.specs.Engine.{hundredths_shown}
 use Rattle.engine.proofs.hundredths_of.Goals as goal
 
-pub returns-in-Answered : goal.returns-in-Answered
+pub returns-in-Ok : goal.returns-in-Ok
 unfolding hundredths_shown
-returns-in-Answered c = rw c.in-Answered.is (to_z-of_z {w = w32} (sfits_of c.struct_told-1.given.1.1.1.0.1))
+returns-in-Ok c = rw c.in-Ok.is (to_z-of_z {w = w32} (sfits_of c.struct_told-1.given.1.1.1.0.1))
 
-pub returns-in-Refused : goal.returns-in-Refused
+pub returns-in-Err : goal.returns-in-Err
 unfolding hundredths_shown
-returns-in-Refused c = rw c.in-Refused.is
+returns-in-Err c = rw c.in-Err.is

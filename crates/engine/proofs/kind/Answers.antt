@@ -5,10 +5,10 @@ use Rattle.gates.proofs.Gates.{kind-lt}
 use Rattle.engine.specs.Engine.{kind_shown}
 use Rattle.engine.proofs.kind.Goals as goal
 
-pub returns-in-Answered : goal.returns-in-Answered
+pub returns-in-Ok : goal.returns-in-Ok
 unfolding kind_shown
-returns-in-Answered c = let k = kind-lt c.in-Answered.told.gate in rw (c.in-Answered.is, c.kind.ensures) (sym (mod-eq_of_lt (omega arith)))
+returns-in-Ok c = let k = kind-lt c.in-Ok.told.gate in rw (c.in-Ok.is, c.kind.ensures) (sym (mod-eq_of_lt (omega arith)))
 
-pub returns-in-Refused : goal.returns-in-Refused
+pub returns-in-Err : goal.returns-in-Err
 unfolding kind_shown
-returns-in-Refused c = rw c.in-Refused.is
+returns-in-Err c = rw (c.in-Err.is, c.number.ensures)

@@ -4,12 +4,12 @@ use Rattle.ask.specs.Tallies.{told_tally}
 use Rattle.lent.specs.Lending.{lent_of}
 use Rattle.lent.proofs.tally_told.Goals as goal
 
-pub returns-in-Counted : goal.returns-in-Counted
+pub returns-in-Ok : goal.returns-in-Ok
 unfolding lent_of
-returns-in-Counted c =
-    ap (lent_of c.args.old) (sym (ap told_tally c.in-Counted.is) ∙ c.tally_of.ensures)
+returns-in-Ok c =
+    ap (lent_of c.args.old) (sym (ap told_tally c.in-Ok.is) ∙ c.tally_of.ensures)
 
-pub returns-in-Refused : goal.returns-in-Refused
+pub returns-in-Err : goal.returns-in-Err
 unfolding lent_of
-returns-in-Refused c =
-    ap (lent_of c.args.old) (sym (ap told_tally c.in-Refused.is) ∙ c.tally_of.ensures)
+returns-in-Err c =
+    rw c.number.ensures (ap (lent_of c.args.old) (sym (ap told_tally c.in-Err.is) ∙ c.tally_of.ensures))

@@ -1,15 +1,16 @@
+use mathlib.Core.Path.{sym, ◌∙◌}
+use Rattle.refusal.proofs.Handed.{handed-on}
 use Rattle.ask.specs.Answers.{gate_told}
+use Rattle.ask.proofs.Found.{is-at, gate-lost}
 use Rattle.ask.proofs.answers.gate.Goals as goal
 
-pub returns-in-At : goal.returns-in-At
-unfolding gate_told
-returns-in-At c =
-    rw (← c.find.ensures, c.in-At.is, c.gate_in.ensures, c.data.ensures, c.read.ensures, c.own-b.ensures)
+pub returns-in_err-s : goal.returns-in_err-s
+returns-in_err-s c =
+    let a = c.args in
+    rw (handed-on c.from_residual.ensures.1) (gate-lost a.file.now _ a.i _ (sym c.found.ensures ∙ c.in_err-s.was))
 
-pub returns-in-NoRadial : goal.returns-in-NoRadial
+pub returns : goal.returns
 unfolding gate_told
-returns-in-NoRadial c = rw (← c.find.ensures, c.in-NoRadial.is)
-
-pub returns-in-NoMoment : goal.returns-in-NoMoment
-unfolding gate_told
-returns-in-NoMoment c = rw (← c.find.ensures, c.in-NoMoment.is)
+returns c =
+    let here = is-at _ c.in_ok-s.s c.in_ok-s.p (sym c.found.ensures ∙ c.in_ok-s.was) in
+    rw (here, c.gate_in.ensures, c.data.ensures, c.read.ensures, c.own-b.ensures)

@@ -1,24 +1,16 @@
-use mathlib.Core.Path.{refl}
+use mathlib.Core.Path.{sym, ◌∙◌}
+use Rattle.refusal.proofs.Handed.{handed-on}
 use Rattle.ask.specs.Answers.{RowTold}
+use Rattle.ask.proofs.Found.{is-at, row-lost}
 use Rattle.ask.proofs.answers.row.Goals as goal
 
-pub returns-in-At : goal.returns-in-At
-unfolding RowTold
-returns-in-At c =
-    rw (
-      ← c.find.ensures,
-      c.in-At.is,
-      ← c.own-b.ensures,
-      ← c.read-h.ensures,
-      ← c.data.ensures,
-      ← c.coding.ensures,
-    )
-    c.row.ensures
+pub returns-in_err-s : goal.returns-in_err-s
+returns-in_err-s c =
+    let a = c.args in
+    rw (handed-on c.from_residual.ensures.1) (row-lost a.file.now _ a.kinds.now a.hundredths.now _ (sym c.found.ensures ∙ c.in_err-s.was))
 
-pub returns-in-NoRadial : goal.returns-in-NoRadial
+pub returns : goal.returns
 unfolding RowTold
-returns-in-NoRadial c = rw (← c.find.ensures, c.in-NoRadial.is) (record { answer = refl; kinds = refl; hundredths = refl })
-
-pub returns-in-NoMoment : goal.returns-in-NoMoment
-unfolding RowTold
-returns-in-NoMoment c = rw (← c.find.ensures, c.in-NoMoment.is) (record { answer = refl; kinds = refl; hundredths = refl })
+returns c =
+    let here = is-at _ c.in_ok-s.s c.in_ok-s.p (sym c.found.ensures ∙ c.in_ok-s.was) in
+    rw (here, ← c.own-b.ensures, ← c.read-h.ensures, ← c.data.ensures, ← c.coding.ensures) c.row.ensures
