@@ -66,6 +66,22 @@ unfolding also
 stays c [] = refl
 stays c (r ∷ rs) = stays c rs
 
+-- what is told of one rule alone
+abbrev told_of : Rule → Check
+told_of r = also (Ok tt) (breaks r.clauses) r.number r.place r.size
+
+-- rules told of one by one, up to the first that is broken or to the last
+pub data Judged : List Rule → Check → Type 0 where
+  kept-on : (r : Rule) (rs : List Rule) {v w : Check} → v ≡ Ok tt → v ≡ told_of r → Judged rs w → Judged (r ∷ rs) w
+  broken-here : (r : Rule) (rs : List Rule) {v : Check} {c : Clause} → v ≡ Err c → v ≡ told_of r → Judged (r ∷ rs) (Err c)
+  last : (r : Rule) {v : Check} → v ≡ told_of r → Judged (r ∷ []) v
+
+-- say what the block's rules say
+pub judged : {rs : List Rule} {v : Check} → Judged rs v → v ≡ verdict rs
+judged (kept-on r rs e d j) = judged j ∙ ap (λ (w : Check). judge w rs) (sym e ∙ d)
+judged (broken-here r rs {c = c} e d) = sym (stays c rs) ∙ ap (λ (w : Check). judge w rs) (sym e ∙ d)
+judged (last r d) = d
+
 -- the rules behind one that holds, and behind one that does not
 pub on : (r : Rule) (rs : List Rule) → breaks r.clauses ≡ 0 → verdict (r ∷ rs) ≡ verdict rs
 unfolding also
