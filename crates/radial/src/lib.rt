@@ -4,7 +4,7 @@
 ghost use Rattle.std.specs.Prelude.{◌≡◌, ◌+◌, ◌≤◌, length, pos};
 ghost use Rattle.le.specs.Le.{stored, patch, int};
 ghost use Rattle.rules.specs.Check.{breaks};
-ghost use Rattle.rules.specs.Ranges.{among, is, count_clauses};
+ghost use Rattle.rules.specs.Ranges.{among, is, count_clauses, most_radials, most_sequence};
 ghost use Rattle.radial.specs.Radial.{radial_of, radial_at, radial_bytes, radial_size, radial_check};
 
 use rules::check::{Clause, clauses, rule};
@@ -141,13 +141,13 @@ impl Radial {
             4,
         )?;
         clauses(
-            count_breaks(65536, due.before, self.sequence),
+            sequence_breaks(due.before, self.sequence),
             12,
             Self::SEQUENCE as u8,
             4,
         )?;
         clauses(
-            count_breaks(1000, due.in_cut, self.radial_number),
+            radial_number_breaks(due.in_cut, self.radial_number),
             13,
             Self::RADIAL_NUMBER as u8,
             4,
@@ -187,12 +187,25 @@ impl Radial {
     }
 }
 
-// Which clause of a count a number breaks first: one more than what it counts before it, and no more than the most.
-fn count_breaks(most: usize, before: usize, x: u32) -> u8
-    ensures { result ≡ breaks (count_clauses most before x) }
+// One function a range, here and below: each rule of a field is decided by a match with ranges, and no range of a match is a parameter.
+// Which clause of number 12 (table 3-1) a sequence breaks first: one more than the radials before it, 65,536 at the most.
+fn sequence_breaks(before: usize, x: u32) -> u8
+    ensures { result ≡ breaks (count_clauses most_sequence before x) }
 {
     match x {
-        1..=0x7fff_ffff if (x - 1) as usize == before => if before < most { 0 } else { 2 },
+        1..=65536 => if (x - 1) as usize == before { 0 } else { 1 },
+        65537..=0x7fff_ffff => if (x - 1) as usize == before { 2 } else { 1 },
+        _ => 1,
+    }
+}
+
+// Which clause of number 13 (table 3-1) a radial number breaks first: its count in the cut, 1000 at the most.
+fn radial_number_breaks(before: usize, x: u32) -> u8
+    ensures { result ≡ breaks (count_clauses most_radials before x) }
+{
+    match x {
+        1..=1000 => if (x - 1) as usize == before { 0 } else { 1 },
+        1001..=0x7fff_ffff => if (x - 1) as usize == before { 2 } else { 1 },
         _ => 1,
     }
 }
@@ -207,7 +220,6 @@ fn elevation_number_ok(cut: u32, x: u32) -> bool
     }
 }
 
-// One function a range: each rule of a field is decided by a match with ranges, and no range of a match is a parameter.
 // Number 11 (table 3-1).
 fn spot_blank_ok(x: u32) -> bool
     ensures { result ≡ among (pos 0) (pos 1) (int x) }
