@@ -91,19 +91,19 @@ pub fn put_bytes<const N: usize>(room: &mut [u8], at: usize, src: [u8; N])
 pub fn put_u16(room: &mut [u8], at: usize, x: u16)
     ensures { room.new ≡ stored 2 room.old at (bytes 2 x) }
 {
-    put_bytes(room, at, x.to_le_bytes());
+    put_bytes(room, at, u16::to_le_bytes(x));
 }
 
 pub fn put_u32(room: &mut [u8], at: usize, x: u32)
     ensures { room.new ≡ stored 4 room.old at (bytes 4 x) }
 {
-    put_bytes(room, at, x.to_le_bytes());
+    put_bytes(room, at, u32::to_le_bytes(x));
 }
 
 pub fn put_u64(room: &mut [u8], at: usize, x: u64)
     ensures { room.new ≡ stored 8 room.old at (bytes 8 x) }
 {
-    put_bytes(room, at, x.to_le_bytes());
+    put_bytes(room, at, u64::to_le_bytes(x));
 }
 
 // Puts the numbers of xs into room from a place on, 2 bytes each: all of them, or none.
