@@ -13,7 +13,7 @@ mod words;
 
 ghost use Rattle.std.specs.Prelude.{◌≤◌, ◌<◌, length, IfOk, IfSome, IsNone};
 
-use crate::rooms::{ListRooms, unpack};
+use crate::rooms::{ListRooms, unpack_eights, unpack_fours};
 use crate::telling::print_answer;
 use crate::words::{say_answer, say_written};
 use printing::{first, read_full};
@@ -89,9 +89,9 @@ fn list<'a>(
         let gates = &mut gates[..g];
         let kinds = &mut kinds[..k];
         let hundredths = &mut hundredths[..h];
-        unpack(radials, 8, |at| le::u64_at(from_radials, at) as usize);
-        unpack(types, 4, |at| le::u32_at(from_types, at));
-        unpack(gates, 8, |at| le::u64_at(from_gates, at) as usize);
+        unpack_eights(from_radials, radials);
+        unpack_fours(from_types, types);
+        unpack_eights(from_gates, gates);
         let rooms = ListRooms {
             radials,
             types,

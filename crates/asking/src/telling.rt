@@ -1,7 +1,7 @@
 // What is printed of a list in one line: how many questions were answered, or the refusal; and the checksums of all of both rooms, so that
 // no entry is stored unseen.
 use crate::rooms::{ListRooms, sum_signed};
-use printing::sum;
+use printing::{fill, sum};
 use std::io;
 
 // In rooms that are filled with AA before.
@@ -18,7 +18,7 @@ pub(crate) fn print_answer(
         kinds,
         hundredths,
     } = rooms;
-    kinds.fill(0xAA);
+    fill(kinds, 0xAA);
     hundredths.fill(le::i32_of(0xAAAA_AAAA));
     let answer = engine::answer(file, index, radials, types, gates, kinds, hundredths);
     let kinds = sum(kinds);

@@ -6,7 +6,7 @@
 // at.
 #![tactic(auto)]
 
-ghost use Rattle.std.specs.Prelude.{◌≤◌, ◌<◌, ◌*◌, length, IfOk};
+ghost use Rattle.std.specs.Prelude.{◌≡◌, ◌≤◌, ◌/◌, length, min, IfOk};
 
 use decoded::Compared;
 use printing::{behind, first, read_full};
@@ -30,14 +30,16 @@ fn print_answer(out: &impl Print, answer: Result<Compared, Refusal>) -> io::Resu
     }
 }
 
-// The numbers of four bytes each, put into a room that has place for them.
+// The numbers of four bytes each, put into a room: as many as there are, or as the room has place for.
 fn unpack<'a>(bytes: &[u8], room: &'a mut [i32]) -> &'a [i32]
-    requires { length bytes.now ≤ 4 * length room.old }
+    ensures within { length result.now ≤ length room.old }
+    ensures many { length result.now ≡ min (length bytes.now / 4) (length room.old) }
 {
     for (x, four) in room.iter_mut().zip(bytes.chunks_exact(4)) {
         *x = le::i32_of(le::u32_at(four, 0));
     }
-    &room[..bytes.len() / 4]
+    let n = (bytes.len() / 4).min(room.len());
+    &room[..n]
 }
 
 // The row that the input begins with, and what follows it.
