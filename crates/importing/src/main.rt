@@ -12,7 +12,7 @@ ghost use Rattle.std.specs.Prelude.{◌≤◌, ◌-◌, length, IfOk};
 
 use crate::telling::{Output, print_refused, print_taken};
 use generic::Generic;
-use printing::{behind, first, read_full};
+use printing::{behind, fill, first, read_full};
 use site::Site;
 use std::io;
 use std::io::Read;
@@ -27,7 +27,7 @@ fn bring(
     room: &mut [u8],
     output: Output,
 ) -> io::Result<()> {
-    room.fill(0xAA);
+    fill(room, 0xAA);
     let put = shelf::import(
         Generic::read(records, 0),
         Site::read(records, Generic::SIZE),

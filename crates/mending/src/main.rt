@@ -12,7 +12,7 @@ ghost use Rattle.std.specs.Prelude.{◌<◌, length, IfOk, IfSome, IsNone};
 
 use crate::telling::print_mended;
 use crate::words::say_mended;
-use printing::{first, read_full};
+use printing::{fill, first, read_full};
 use std::io;
 use std::io::Read;
 
@@ -25,7 +25,7 @@ enum Output {
 }
 
 fn close(out: &impl Print, file: &[u8], room: &mut [u8], output: Output) -> io::Result<()> {
-    room.fill(0xAA);
+    fill(room, 0xAA);
     let mended = mend::mend(file, room);
     match output {
         Output::Words => say_mended(out, room, mended),

@@ -13,7 +13,7 @@ ghost use Rattle.std.specs.Prelude.{◌<◌, length, IfOk, IfSome, IsNone};
 use crate::telling::print_picked;
 use crate::words::say_picked;
 use pick::Picked;
-use printing::{first, read_full};
+use printing::{fill, first, read_full};
 use std::io;
 use std::io::Read;
 
@@ -24,7 +24,7 @@ fn print_pick<'a>(
     wanted: u64,
     room: &'a mut [u8],
 ) -> io::Result<&'a [u8]> {
-    room.fill(0xAA);
+    fill(room, 0xAA);
     let picked = pick::pick(file, wanted, room);
     print_picked(out, room, picked)?;
     let size = match picked {

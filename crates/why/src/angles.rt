@@ -63,6 +63,7 @@ impl fmt::Display for Angle {
                     (_, true) => "a little under ",
                     _ => "a little over ",
                 };
+                let size = u64::from(size);
                 write!(f, "{cut}{}", Hundredths { negative, size })
             }
             Angle::Beyond(true) => write!(f, "under -1000000"),

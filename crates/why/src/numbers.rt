@@ -1,5 +1,6 @@
 // Numbers in text: of a field, with its bytes, and in hundredths.
 use citing::Field;
+use printing::size;
 use std::fmt;
 
 // The number of a field. One of two bytes is a SHORT, any other an INT.
@@ -14,14 +15,14 @@ pub(crate) fn number_of(f: Field) -> i32 {
 #[derive(Clone, Copy)]
 pub(crate) struct Hundredths {
     pub(crate) negative: bool,
-    pub(crate) size: u32,
+    pub(crate) size: u64,
 }
 
 impl From<i32> for Hundredths {
     fn from(z: i32) -> Hundredths {
         Hundredths {
             negative: z < 0,
-            size: z.unsigned_abs(),
+            size: size(z),
         }
     }
 }
