@@ -177,7 +177,7 @@ below : (f : List ℕ) (w : Where) (i : ℕ) → kind_shown (gate_told f w i) < 
 unfolding gate_told kind_shown
 below f NoRadial i = lit< tt
 below f NoMoment i = lit< tt
-below f (Some s p) i = below_in _ _ i
+below f (At s p) i = below_in _ _ i
 '''
 RADIALS_NEW = '''-- the new form
 pub returns-then-cuts-eq0 : goal.returns-then-cuts-eq0
@@ -347,7 +347,11 @@ SLIPS = {
     # the sequence up to 65,535 (number 12; document 02, #106)
     'sequence_to_65535': [
         ('crates/rules/specs/Ranges.antt', 'most_sequence = 65536', 'most_sequence = 65535'),
-        ('crates/radial/src/lib.rt', 'count_breaks(65536,', 'count_breaks(65535,'),
+        ('crates/radial/src/lib.rt', '1..=65536 =>', '1..=65535 =>'),
+        ('crates/radial/src/lib.rt', '65537..=', '65536..='),
+        ('crates/radial/proofs/sequence_breaks/Answers.antt', '1-to-65536', '1-to-65535'),
+        ('crates/radial/proofs/sequence_breaks/Answers.antt', '65537-to', '65536-to'),
+        ('crates/radial/proofs/sequence_breaks/Answers.antt', 'lt65537', 'lt65536'),
     ],
     # an index of 51 cuts in the old form (document 02, #106)
     'old_form_to_51': [
@@ -738,6 +742,7 @@ SLIPS = {
     'refused_as_unknown': [
         (ENGINE, 'kind_shown (refused number place) = number', 'kind_shown (refused number place) = 3'),
         (ENGINE_CODE, 'Err(refusal) => (refusal.number() % 256) as u8', 'Err(_) => 3'),
+        ('crates/engine/proofs/kind/Answers.antt', 'rw (c.in-Err.is, c.number.ensures)', 'rw c.in-Err.is'),
         (FILLING, BELOW, BELOW_BY_ITSELF),
         (FILLING, 'below (stands-asked f n t i)', 'below f (where_is f n t) i'),
     ],
